@@ -1,0 +1,6 @@
+-- Laws of gates and records.
+pub mod Table
+pub mod KindLaws
+pub mod WordLaws
+pub mod RecordLaws
+pub mod RoundTrip

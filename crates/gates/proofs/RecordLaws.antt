@@ -1,0 +1,121 @@
+-- Records and gates: which words a kind uses, and that decoding and encoding undo each other.
+use mathlib.Core.Path.{_≡_, refl, ap, sym, _∙_}
+use mathlib.Core.Bool.{Bool, true, false, _&&_, and-true}
+use mathlib.Core.List.{List, [], _∷_, _++_}
+use Prim.Native.Nat.{ℕ, zero, suc, _+_, _*_, _≤_, _<_}
+use native.Mathlib.Omega.{arith}
+use lib.Dec.{T, eqb, leb, leb→le}
+use lib.ListN.{length, getD, drop}
+use borrow.Author.Tests.{eq-eqb, ne-eqb, leb-true, leb-false}
+use Rattle.gates.proofs.Table.{at, and-left, and-right}
+use Rattle.gates.proofs.KindLaws.{unknown-named}
+use Rattle.gates.specs.declared.Gate.{Gate}
+use Rattle.gates.specs.declared.kinds.Row.{Row}
+use Rattle.gates.specs.declared.records.Record.{Record}
+use Rattle.gates.specs.declared.records.Decoded.{Decoded}
+use Rattle.gates.specs.Kinds.{Shape, on1, on2, on3, onBit, angled, unknown, shapes, shapeOf, wiresIn, rowOf}
+use Rattle.gates.specs.Records.{usedOf, unusedOf, allZero, unlessUnused, namedBy, gateOf}
+
+-- ------------------------------------------------------------ the words that a kind uses
+
+abbrev oneToThree : ℕ → Shape → Bool
+oneToThree kind s = leb 1 (wiresIn s) && leb (wiresIn s) 3
+
+operands-small : (kind : ℕ) → kind < 27 → (1 ≤ wiresIn (shapeOf kind)) × (wiresIn (shapeOf kind) ≤ 3)
+unfolding shapeOf shapes
+operands-small kind h =
+    let n = wiresIn (shapeOf kind) in
+    let t = at oneToThree shapes unknown tt kind h in
+    (leb→le 1 n (and-left (leb 1 n) (leb n 3) t), leb→le n 3 (and-right (leb 1 n) (leb n 3) t))
+
+pub row-small : (row : Row) (kind : ℕ) → row ≡ rowOf kind → kind < 27 → (1 ≤ row .operands) × (row .operands ≤ 3)
+row-small row kind e h = rw e (operands-small kind h)
+
+pub used-wires : (kind : ℕ) → (kind ≡ 12 → ⊥) → usedOf kind ≡ wiresIn (shapeOf kind)
+unfolding usedOf
+used-wires kind no12 = rw (ne-eqb kind 12 no12)
+
+pub left-three : (used : ℕ) → 1 ≤ used → used ≤ 3 → (used ≡ 1 → ⊥) → (used ≡ 2 → ⊥) → used ≡ 3
+left-three used low high no1 no2 = omega arith
+
+-- ------------------------------------------------------------ the test of what must be zero
+
+pub padded : (r : Record) → (r .padding ≡ 0 → ⊥) → false ≡ allZero (unusedOf r)
+unfolding unusedOf allZero
+padded r no0 = rw (ne-eqb (r .padding) 0 no0)
+
+-- with bytes 1 to 3 zero, the words behind the used ones decide
+pub unpadded : (r : Record) (used : ℕ) → used ≡ usedOf (r .kind) → r .padding ≡ 0
+    → allZero (drop used (r .first ∷ r .second ∷ r .third ∷ [])) ≡ allZero (unusedOf r)
+unfolding unusedOf allZero
+unpadded r used e p = rw (e, eq-eqb (r .padding) 0 p)
+
+pub first-not-zero : (x : ℕ) (xs : List ℕ) → (x ≡ 0 → ⊥) → false ≡ allZero (x ∷ xs)
+unfolding allZero
+first-not-zero x xs no0 = rw (ne-eqb x 0 no0)
+
+pub first-zero : (x : ℕ) (xs : List ℕ) → x ≡ 0 → allZero xs ≡ allZero (x ∷ xs)
+unfolding allZero
+first-zero x xs e = rw (eq-eqb x 0 e)
+
+pub only-one : (x : ℕ) → eqb x 0 ≡ allZero (x ∷ [])
+unfolding allZero
+only-one x = sym (and-true (eqb x 0))
+
+-- ------------------------------------------------------------ the gate of a record
+
+never : (d : Decoded) (g : Gate) → d ≡ Decoded.Gate g → d ≡ Decoded.Unknown → ⊥
+never d g p q = let z : _≡_ {A = ℕ} 0 1 = cc in omega arith
+
+pub gate-kind : (r : Record) (g : Gate) → namedBy r ≡ Decoded.Gate g → r .kind < 27
+gate-kind r g e = go (leb 27 (r .kind)) refl
+  where
+    go : (b : Bool) → leb 27 (r .kind) ≡ b → r .kind < 27
+    go true h = absurd (never (namedBy r) g e (unknown-named r (leb-true 27 (r .kind) h)))
+    go false h = leb-false 27 (r .kind) h
+
+gate-by : (r : Record) (d : Decoded) (clean : Bool) → d ≡ namedBy r → allZero (unusedOf r) ≡ clean → unlessUnused clean d ≡ gateOf r
+unfolding gateOf
+gate-by r d clean e z = rw (e, ← z)
+
+pub gate-clean : (r : Record) (d : Decoded) (g : Gate) → d ≡ namedBy r → d ≡ Decoded.Gate g → allZero (unusedOf r) ≡ true → d ≡ gateOf r
+gate-clean r d g e q z = q ∙ gate-by r (Decoded.Gate g) true (sym q ∙ e) z
+
+pub gate-unclean : (r : Record) (d : Decoded) (g : Gate) → d ≡ namedBy r → d ≡ Decoded.Gate g → allZero (unusedOf r) ≡ false → Decoded.NotZero ≡ gateOf r
+gate-unclean r d g e q z = gate-by r (Decoded.Gate g) false (sym q ∙ e) z
+
+pub gate-angle : (r : Record) (d : Decoded) → d ≡ namedBy r → d ≡ Decoded.Angle → Decoded.Angle ≡ gateOf r
+gate-angle r d e q = gate-by r Decoded.Angle (allZero (unusedOf r)) (sym q ∙ e) refl
+
+pub gate-unknown : (r : Record) (d : Decoded) → d ≡ namedBy r → d ≡ Decoded.Unknown → Decoded.Unknown ≡ gateOf r
+gate-unknown r d e q = gate-by r Decoded.Unknown (allZero (unusedOf r)) (sym q ∙ e) refl
+
+pub gate-not-zero : (r : Record) (d : Decoded) → d ≡ namedBy r → d ≡ Decoded.NotZero → Decoded.NotZero ≡ gateOf r
+gate-not-zero r d e q = gate-by r Decoded.NotZero (allZero (unusedOf r)) (sym q ∙ e) refl
+
+-- ------------------------------------------------------------ what a decoded record's kind is
+
+pub gate-past-26 : (r : Record) → 27 ≤ r .kind → gateOf r ≡ Decoded.Unknown
+gate-past-26 r h = sym (gate-unknown r (namedBy r) refl (unknown-named r h))
+
+pub known-kind : (r : Record) (g : Gate) → gateOf r ≡ Decoded.Gate g → r .kind < 27
+known-kind r g e = go (leb 27 (r .kind)) refl
+  where
+    go : (b : Bool) → leb 27 (r .kind) ≡ b → r .kind < 27
+    go true h = absurd (never (gateOf r) g e (gate-past-26 r (leb-true 27 (r .kind) h)))
+    go false h = leb-false 27 (r .kind) h
+
+abbrev pub isKnown : Shape → Bool
+isKnown (on1 f) = true
+isKnown (on2 f) = true
+isKnown (on3 f) = true
+isKnown (onBit f) = true
+isKnown (angled n) = true
+isKnown unknown = false
+
+abbrev knownAt : ℕ → Shape → Bool
+knownAt kind s = isKnown s
+
+pub known-below-27 : (kind : ℕ) → kind < 27 → T (isKnown (shapeOf kind))
+unfolding shapeOf shapes
+known-below-27 kind h = at knownAt shapes unknown tt kind h

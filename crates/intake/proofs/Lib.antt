@@ -1,0 +1,4 @@
+-- Laws of the tests of input.
+pub mod TestLaws
+pub mod RecordLaws
+pub mod SizeLaws

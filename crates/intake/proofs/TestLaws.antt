@@ -1,0 +1,99 @@
+-- The first of several tests that fails.
+use mathlib.Core.Path.{_≡_, refl, ap, sym, _∙_}
+use mathlib.Core.Bool.{Bool, true, false, cond}
+use mathlib.Core.List.{List, [], _∷_, _++_}
+use Prim.Native.Nat.{ℕ, suc, _+_, _-_, _*_, _/_, _≤_, _<_}
+use native.Mathlib.Numerals.{add-one}
+use native.Mathlib.Omega.{arith}
+use lib.ListN.{take}
+use Rattle.gates.specs.declared.Position.{Position}
+use Rattle.gates.specs.declared.kinds.Row.{Row}
+use Rattle.gates.specs.declared.records.Record.{Record}
+use Rattle.gates.specs.Kinds.{rowOf}
+use Rattle.gates.specs.Records.{recordAt}
+use Rattle.intake.specs.declared.Tested.{Tested}
+use Rattle.intake.specs.Tests.{Test, position, firstFailing, operandWords, recordTests, recordsTests}
+
+-- ------------------------------------------------------------ room for a journal, by its quotient
+
+pub room-short : (room g : ℕ) → room / 24 < g → room < 24 * g
+room-short room g h = omega arith
+
+pub room-enough : (room g : ℕ) → g ≤ room / 24 → 24 * g ≤ room
+room-enough room g h = omega arith
+
+-- ------------------------------------------------------------ operands
+
+-- what a test says of the words that the table's row counts, it says of the operand words
+pub on-operands : (f : List ℕ → Bool) (r : Record) (row : Row) (t : Bool) → row ≡ rowOf (r .kind)
+    → t ≡ f (take (row .operands) (r .first ∷ r .second ∷ r .third ∷ [])) → f (operandWords r) ≡ t
+on-operands f r row t e h = sym (h ∙ ap (λ (k : Row). f (take (k .operands) (r .first ∷ r .second ∷ r .third ∷ []))) e)
+
+-- ------------------------------------------------------------ one list of tests behind another
+
+accepted≢refused : (t : Tested) (number : ℕ) (place : Position) → t ≡ Tested.Accepted → t ≡ Tested.Refused number place → ⊥
+accepted≢refused t number place p q = let z : _≡_ {A = ℕ} 0 1 = cc in omega arith
+
+first-fails : (t : Test) (ts : List Test) → t .fails ≡ true → firstFailing (t ∷ ts) ≡ Tested.Refused (t .number) (position (t .place))
+unfolding firstFailing
+first-fails t ts f = rw f
+
+first-next : (t : Test) (ts : List Test) → t .fails ≡ false → firstFailing (t ∷ ts) ≡ firstFailing ts
+unfolding firstFailing
+first-next t ts f = rw f
+
+pub accepted-then : (ts us : List Test) → firstFailing ts ≡ Tested.Accepted → firstFailing (ts ++ us) ≡ firstFailing us
+unfolding firstFailing
+accepted-then [] us e = refl
+accepted-then (t ∷ ts) us e = go (accepted-then ts us) (t .fails) refl
+  where
+    go : (firstFailing ts ≡ Tested.Accepted → firstFailing (ts ++ us) ≡ firstFailing us)
+        → (b : Bool) → t .fails ≡ b → firstFailing ((t ∷ ts) ++ us) ≡ firstFailing us
+    go rest true f = absurd (accepted≢refused (firstFailing (t ∷ ts)) (t .number) (position (t .place)) e (rw f))
+    go rest false f = rw f (rest (rw f at e))
+
+pub refused-then : (ts us : List Test) (number : ℕ) (place : Position) → firstFailing ts ≡ Tested.Refused number place
+    → firstFailing (ts ++ us) ≡ Tested.Refused number place
+unfolding firstFailing
+refused-then [] us number place e = absurd (accepted≢refused _ _ _ refl e)
+refused-then (t ∷ ts) us number place e = go (refused-then ts us number place) (t .fails) refl
+  where
+    go : (firstFailing ts ≡ Tested.Refused number place → firstFailing (ts ++ us) ≡ Tested.Refused number place)
+        → (b : Bool) → t .fails ≡ b → firstFailing ((t ∷ ts) ++ us) ≡ Tested.Refused number place
+    go rest true f = rw f (rw f at e)
+    go rest false f = rw f (rest (rw f at e))
+
+-- the first test passes where all do
+pub first-passes : (t : Test) (ts : List Test) → firstFailing (t ∷ ts) ≡ Tested.Accepted → (t .fails ≡ false) × (firstFailing ts ≡ Tested.Accepted)
+first-passes t ts e = go (t .fails) refl
+  where
+    go : (b : Bool) → t .fails ≡ b → (t .fails ≡ false) × (firstFailing ts ≡ Tested.Accepted)
+    go true f = absurd (accepted≢refused (firstFailing (t ∷ ts)) (t .number) (position (t .place)) e (first-fails t ts f))
+    go false f = (f, sym (first-next t ts f) ∙ e)
+
+-- ------------------------------------------------------------ record after record
+
+module _ (n bits : ℕ) (list : List ℕ) (g i : ℕ) where
+  one-more : i < g
+      → recordsTests n bits list i (g - i) ≡ recordTests n bits i (recordAt list i) ++ recordsTests n bits list (i + 1) (g - (i + 1))
+  unfolding recordsTests
+  one-more h =
+      let e : g - i ≡ suc (g - (i + 1)) = omega arith in
+      rw (e, add-one i)
+
+  pub record-accepted : i < g → firstFailing (recordTests n bits i (recordAt list i)) ≡ Tested.Accepted
+      → firstFailing (recordsTests n bits list i (g - i)) ≡ firstFailing (recordsTests n bits list (i + 1) (g - (i + 1)))
+  record-accepted h e =
+      ap firstFailing (one-more h) ∙ accepted-then (recordTests n bits i (recordAt list i)) (recordsTests n bits list (i + 1) (g - (i + 1))) e
+
+  pub record-refused : (number : ℕ) (place : Position) → i < g → firstFailing (recordTests n bits i (recordAt list i)) ≡ Tested.Refused number place
+      → firstFailing (recordsTests n bits list i (g - i)) ≡ Tested.Refused number place
+  record-refused number place h e =
+      ap firstFailing (one-more h)
+      ∙ refused-then (recordTests n bits i (recordAt list i)) (recordsTests n bits list (i + 1) (g - (i + 1))) number place e
+
+  pub records-end : g ≤ i → firstFailing (recordsTests n bits list i (g - i)) ≡ Tested.Accepted
+  unfolding recordsTests firstFailing
+  records-end h =
+      let e : g - i ≡ 0 = omega arith in
+      rw e

@@ -1,0 +1,2 @@
+-- What a reader believes of the tests of input.
+pub mod Tests
