@@ -1,8 +1,9 @@
 -- Records and gates: which words a kind uses, and that decoding and encoding undo each other.
 use mathlib.Core.Path.{_≡_, refl, ap, sym, _∙_}
-use mathlib.Core.Bool.{Bool, true, false, _&&_, and-true}
+use mathlib.Core.Bool.{Bool, true, false, _&&_, _||_, and-true, and-assoc}
 use mathlib.Core.List.{List, [], _∷_, _++_}
 use Prim.Native.Nat.{ℕ, zero, suc, _+_, _*_, _≤_, _<_}
+use native.Mathlib.Nat.{not-suc-le-zero}
 use native.Mathlib.Omega.{arith}
 use lib.Dec.{T, eqb, leb, leb→le}
 use lib.ListN.{length, getD, drop}
@@ -35,32 +36,32 @@ pub used-wires : (kind : ℕ) → (kind ≡ 12 → ⊥) → usedOf kind ≡ wire
 unfolding usedOf
 used-wires kind no12 = rw (ne-eqb kind 12 no12)
 
-pub left-three : (used : ℕ) → 1 ≤ used → used ≤ 3 → (used ≡ 1 → ⊥) → (used ≡ 2 → ⊥) → used ≡ 3
-left-three used low high no1 no2 = omega arith
+-- a count from 1 to 3 is one of three
+pub one-to-three : (P : ℕ → Type 0) → P 1 → P 2 → P 3 → (n : ℕ) → 1 ≤ n → n ≤ 3 → P n
+one-to-three P p₁ p₂ p₃ zero low high = absurd (not-suc-le-zero low)
+one-to-three P p₁ p₂ p₃ (suc zero) low high = p₁
+one-to-three P p₁ p₂ p₃ (suc (suc zero)) low high = p₂
+one-to-three P p₁ p₂ p₃ (suc (suc (suc zero))) low high = p₃
+one-to-three P p₁ p₂ p₃ (suc (suc (suc (suc n)))) low high = absurd (beyond n high)
+  where
+    beyond : (n : ℕ) → suc (suc (suc (suc n))) ≤ 3 → ⊥
+    beyond n h = omega arith
 
--- ------------------------------------------------------------ the test of what must be zero
+abbrev ZeroTest : Record → ℕ → Type 0
+ZeroTest r used =
+    (eqb (r .padding) 0 && (leb 2 used || eqb (r .second) 0) && (leb 3 used || eqb (r .third) 0))
+    ≡ allZero (r .padding ∷ drop used (r .first ∷ r .second ∷ r .third ∷ []))
 
-pub padded : (r : Record) → (r .padding ≡ 0 → ⊥) → false ≡ allZero (unusedOf r)
-unfolding unusedOf allZero
-padded r no0 = rw (ne-eqb (r .padding) 0 no0)
-
--- with bytes 1 to 3 zero, the words behind the used ones decide
-pub unpadded : (r : Record) (used : ℕ) → used ≡ usedOf (r .kind) → r .padding ≡ 0
-    → allZero (drop used (r .first ∷ r .second ∷ r .third ∷ [])) ≡ allZero (unusedOf r)
-unfolding unusedOf allZero
-unpadded r used e p = rw (e, eq-eqb (r .padding) 0 p)
-
-pub first-not-zero : (x : ℕ) (xs : List ℕ) → (x ≡ 0 → ⊥) → false ≡ allZero (x ∷ xs)
+zero-test : (r : Record) (used : ℕ) → 1 ≤ used → used ≤ 3 → ZeroTest r used
 unfolding allZero
-first-not-zero x xs no0 = rw (ne-eqb x 0 no0)
+zero-test r = one-to-three (ZeroTest r) (simp (and-assoc, and-true)) (simp and-true) (simp and-true)
 
-pub first-zero : (x : ℕ) (xs : List ℕ) → x ≡ 0 → allZero xs ≡ allZero (x ∷ xs)
-unfolding allZero
-first-zero x xs e = rw (eq-eqb x 0 e)
-
-pub only-one : (x : ℕ) → eqb x 0 ≡ allZero (x ∷ [])
-unfolding allZero
-only-one x = sym (and-true (eqb x 0))
+-- the test of the code goes by the count of used words
+pub unused-by-count : (r : Record) (used : ℕ) → used ≡ usedOf (r .kind) → 1 ≤ used → used ≤ 3
+    → (eqb (r .padding) 0 && (leb 2 used || eqb (r .second) 0) && (leb 3 used || eqb (r .third) 0)) ≡ allZero (unusedOf r)
+unfolding unusedOf
+unused-by-count r used e low high =
+    zero-test r used low high ∙ ap (λ (n : ℕ). allZero (r .padding ∷ drop n (r .first ∷ r .second ∷ r .third ∷ []))) e
 
 -- ------------------------------------------------------------ the gate of a record
 

@@ -121,20 +121,8 @@ fn unused_are_zero(r: Record) -> bool
     requires { ⌜ r .kind < 27 ⌝ }
     ensures { λ z. ⌜ z ≡ allZero (unusedOf r) ⌝ }
 {
-    if r.padding != 0 {
-        return false;
-    }
     let used = words_used(r.kind);
-    match used {
-        1 => {
-            if r.second != 0 {
-                return false;
-            }
-            r.third == 0
-        }
-        2 => r.third == 0,
-        _ => true,
-    }
+    (r.padding == 0) & ((2 <= used) | (r.second == 0)) & ((3 <= used) | (r.third == 0))
 }
 
 // How many words a kind uses: its wires, and the bit of a measure.

@@ -1,18 +1,21 @@
 -- The first of several tests that fails.
 use mathlib.Core.Path.{_≡_, refl, ap, sym, _∙_}
-use mathlib.Core.Bool.{Bool, true, false, cond}
+use mathlib.Core.Bool.{Bool, true, false, _&&_, _||_, or-assoc, or-false}
 use mathlib.Core.List.{List, [], _∷_, _++_}
 use Prim.Native.Nat.{ℕ, suc, _+_, _-_, _*_, _/_, _≤_, _<_}
 use native.Mathlib.Numerals.{add-one}
 use native.Mathlib.Omega.{arith}
+use lib.Dec.{eqb, leb}
 use lib.ListN.{take}
 use Rattle.gates.specs.declared.Position.{Position}
 use Rattle.gates.specs.declared.kinds.Row.{Row}
 use Rattle.gates.specs.declared.records.Record.{Record}
 use Rattle.gates.specs.Kinds.{rowOf}
+use Rattle.gates.specs.Gates.{has, twice}
 use Rattle.gates.specs.Records.{recordAt}
+use Rattle.gates.proofs.RecordLaws.{one-to-three}
 use Rattle.intake.specs.declared.Tested.{Tested}
-use Rattle.intake.specs.Tests.{Test, position, firstFailing, operandWords, recordTests, recordsTests}
+use Rattle.intake.specs.Tests.{Test, position, firstFailing, operandWords, anyOver, recordTests, recordsTests}
 
 -- ------------------------------------------------------------ room for a journal, by its quotient
 
@@ -97,3 +100,19 @@ module _ (n bits : ℕ) (list : List ℕ) (g i : ℕ) where
   records-end h =
       let e : g - i ≡ 0 = omega arith in
       rw e
+
+-- ------------------------------------------------------------ operands by their count, as the code tests them
+
+abbrev OverTest : ℕ → ℕ → ℕ → ℕ → ℕ → Type 0
+OverTest n a b c count = (leb n a || (leb 2 count && leb n b) || (leb 3 count && leb n c)) ≡ anyOver n (take count (a ∷ b ∷ c ∷ []))
+
+pub over-by-count : (n a b c count : ℕ) → 1 ≤ count → count ≤ 3 → OverTest n a b c count
+unfolding anyOver
+over-by-count n a b c = one-to-three (OverTest n a b c) (simp or-false) (simp or-false) (simp (or-assoc, or-false))
+
+abbrev TwiceTest : ℕ → ℕ → ℕ → ℕ → Type 0
+TwiceTest a b c count = ((leb 2 count && eqb a b) || (leb 3 count && (eqb a c || eqb b c))) ≡ twice (take count (a ∷ b ∷ c ∷ []))
+
+pub twice-by-count : (a b c count : ℕ) → 1 ≤ count → count ≤ 3 → TwiceTest a b c count
+unfolding twice has
+twice-by-count a b c = one-to-three (TwiceTest a b c) (simp or-false) (simp or-false) (simp (or-assoc, or-false))

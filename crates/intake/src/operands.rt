@@ -26,52 +26,14 @@ fn bit_over(bit: Bit, bits: usize) -> bool
     bits <= (bit.0 as usize)
 }
 
-fn either_over(a: Wire, b: Wire, wires: usize) -> bool
-    ensures { λ r. ⌜ r ≡ anyOver wires (a .0 ∷ b .0 ∷ []) ⌝ }
-{
-    if wire_over(a, wires) {
-        return true;
-    }
-    wire_over(b, wires)
-}
-
-fn one_of_three_over(a: Wire, b: Wire, c: Wire, wires: usize) -> bool
-    ensures { λ r. ⌜ r ≡ anyOver wires (a .0 ∷ b .0 ∷ c .0 ∷ []) ⌝ }
-{
-    if wire_over(a, wires) {
-        return true;
-    }
-    either_over(b, c, wires)
-}
-
-// Whether one of the first `count` wires is at or over `wires`.
+// Whether one of the first `count` wires is at or over `wires`. No branch goes by the count: lists mix kinds freely.
 fn any_over(count: u8, a: Wire, b: Wire, c: Wire, wires: usize) -> bool
     requires { ⌜ (1 ≤ count) × (count ≤ 3) ⌝ }
     ensures { λ r. ⌜ r ≡ anyOver wires (take count (a .0 ∷ b .0 ∷ c .0 ∷ [])) ⌝ }
 {
-    match count {
-        1 => wire_over(a, wires),
-        2 => either_over(a, b, wires),
-        _ => one_of_three_over(a, b, c, wires),
-    }
-}
-
-fn same(a: Wire, b: Wire) -> bool
-    ensures { λ r. ⌜ r ≡ twice (a .0 ∷ b .0 ∷ []) ⌝ }
-{
-    a.0 == b.0
-}
-
-fn two_of_three_same(a: Wire, b: Wire, c: Wire) -> bool
-    ensures { λ r. ⌜ r ≡ twice (a .0 ∷ b .0 ∷ c .0 ∷ []) ⌝ }
-{
-    if a.0 == b.0 {
-        return true;
-    }
-    if a.0 == c.0 {
-        return true;
-    }
-    b.0 == c.0
+    wire_over(a, wires)
+        | ((2 <= count) & wire_over(b, wires))
+        | ((3 <= count) & wire_over(c, wires))
 }
 
 // Whether one of the first `count` wires stands there twice.
@@ -79,11 +41,7 @@ fn any_twice(count: u8, a: Wire, b: Wire, c: Wire) -> bool
     requires { ⌜ (1 ≤ count) × (count ≤ 3) ⌝ }
     ensures { λ r. ⌜ r ≡ twice (take count (a .0 ∷ b .0 ∷ c .0 ∷ [])) ⌝ }
 {
-    match count {
-        1 => false,
-        2 => same(a, b),
-        _ => two_of_three_same(a, b, c),
-    }
+    ((2 <= count) & (a.0 == b.0)) | ((3 <= count) & ((a.0 == c.0) | (b.0 == c.0)))
 }
 
 // The operands of a record of a known kind, as many as the table of kinds says.
@@ -102,10 +60,8 @@ pub fn test_operands(r: Record, place: Position, wires: usize, bits: usize) -> T
     if any_twice(row.operands, a, b, c) {
         return refused(11, place);
     }
-    if kind == 12 {
-        if bit_over(Bit(r.second), bits) {
-            return refused(12, place);
-        }
+    if (kind == 12) & bit_over(Bit(r.second), bits) {
+        return refused(12, place);
     }
     Tested::Accepted
 }
