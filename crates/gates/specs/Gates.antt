@@ -1,7 +1,8 @@
--- What is known of a gate without its record: its wires, and which gates meet.
+-- What is known of a gate without its record: its wires, which gates meet, and which are valid.
 use mathlib.Core.Bool.{Bool, true, false, _||_}
 use mathlib.Core.List.{List, [], _∷_}
-use Prim.Native.Nat.{ℕ}
+use mathlib.Core.Path.{_≡_}
+use Prim.Native.Nat.{ℕ, _<_}
 use lib.Dec.{eqb}
 use Rattle.gates.specs.declared.Wire.{Wire}
 use Rattle.gates.specs.declared.Bit.{Bit}
@@ -56,3 +57,9 @@ shares a b = meet (wiresOf a) (wiresOf b)
 unfoldable pub twice : List ℕ → Bool
 twice [] = false
 twice (w ∷ ws) = has w ws || twice ws
+
+-- A valid gate on n wires and so many classical bits: no wire at or over n, none twice, no bit at or over their number.
+pub record Valid (n bits : ℕ) (g : Gate) : Type 0 where
+  pub below : (w : ℕ) → touches w g ≡ true → w < n
+  pub distinct : twice (wiresOf g) ≡ false
+  pub bit : (w : Wire) (b : Bit) → g ≡ Measure w b → b .0 < bits

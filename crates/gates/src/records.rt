@@ -50,7 +50,7 @@ pub fn put_record(bytes: &mut [u8], place: Position, r: Record)
     ensures { λ _. ⌜ now (bytes .exit) ≡ sets (now (bytes .entry)) (16 * place .0) (recordBytes r) ⌝ }
 {
     let at = 16 * (place.0 as usize);
-    words::put_word(bytes, at, words::wide(r.kind) + 256 * r.padding);
+    words::put_word(bytes, at, (r.kind as u32) + 256 * r.padding);
     words::put_word(bytes, at + 4, r.first);
     words::put_word(bytes, at + 8, r.second);
     words::put_word(bytes, at + 12, r.third);

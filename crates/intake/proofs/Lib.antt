@@ -2,3 +2,4 @@
 pub mod TestLaws
 pub mod RecordLaws
 pub mod SizeLaws
+pub mod ValidLaws

@@ -8,7 +8,7 @@ use borrow.Author.Tests.{ltb-false, eqb-true, not-false}
 use Rattle.intake.specs.declared.Tested.{Tested}
 use Rattle.intake.specs.declared.Sizes.{Sizes}
 use Rattle.intake.specs.Tests.{test, firstFailing, recordsIn, sizeTests}
-use Rattle.intake.proofs.TestLaws.{first-passes}
+use Rattle.intake.proofs.TestLaws.{first-passes, neither}
 
 pub record Sized (bytes : ℕ) (s : Sizes) : Type 0 where
   pub wires : s .wires ≤ 65536
@@ -17,10 +17,6 @@ pub record Sized (bytes : ℕ) (s : Sizes) : Type 0 where
   pub records : recordsIn bytes ≤ 1048576
   pub output : bytes ≤ s .output
   pub work : 16 * recordsIn bytes + 4 * s .wires ≤ s .work
-
-neither : (a b : Bool) → (a || b) ≡ false → (a ≡ false) × (b ≡ false)
-neither true b e = ((cc), (cc))
-neither false b e = (refl, e)
 
 whole-records : (bytes : ℕ) → bytes % 16 ≡ 0 → bytes ≡ 16 * (bytes / 16)
 whole-records bytes e = omega arith

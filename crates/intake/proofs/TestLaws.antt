@@ -17,6 +17,10 @@ use Rattle.gates.proofs.RecordLaws.{one-to-three}
 use Rattle.intake.specs.declared.Tested.{Tested}
 use Rattle.intake.specs.Tests.{Test, position, firstFailing, operandWords, anyOver, recordTests, recordsTests}
 
+pub neither : (a b : Bool) → (a || b) ≡ false → (a ≡ false) × (b ≡ false)
+neither true b e = ((cc), (cc))
+neither false b e = (refl, e)
+
 -- ------------------------------------------------------------ room for a journal, by its quotient
 
 pub room-short : (room g : ℕ) → room / 24 < g → room < 24 * g
@@ -73,6 +77,15 @@ first-passes t ts e = go (t .fails) refl
     go : (b : Bool) → t .fails ≡ b → (t .fails ≡ false) × (firstFailing ts ≡ Tested.Accepted)
     go true f = absurd (accepted≢refused (firstFailing (t ∷ ts)) (t .number) (position (t .place)) e (first-fails t ts f))
     go false f = (f, sym (first-next t ts f) ∙ e)
+
+pub both-accepted : (ts us : List Test) → firstFailing (ts ++ us) ≡ Tested.Accepted
+    → (firstFailing ts ≡ Tested.Accepted) × (firstFailing us ≡ Tested.Accepted)
+unfolding firstFailing
+both-accepted [] us e = (refl, e)
+both-accepted (t ∷ ts) us e =
+    let first = first-passes t (ts ++ us) e in
+    let rest = both-accepted ts us (first .1) in
+    (first-next t ts (first .0) ∙ rest .0, rest .1)
 
 -- ------------------------------------------------------------ record after record
 

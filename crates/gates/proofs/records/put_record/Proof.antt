@@ -1,17 +1,13 @@
-use Prim.Native.Nat.{ℕ, _+_, _*_}
-use mathlib.Core.Path.{ap, _∙_}
-use lib.Seq.{sets}
-use Rattle.gates.specs.Words.{bytesOf}
+use Prim.Native.Nat.{_+_, _*_}
 use denote.Ref.{now}
-use Rattle.gates.proofs.WordLaws.{four-words}
 use Rattle.gates.specs.Records.{recordBytes}
+use Rattle.gates.proofs.WordLaws.{four-words}
 use borrow.Author.Needs.{needs}
 use Rattle.gates.proofs.records.put_record.Statement.{statement}
 use Rattle.gates.proofs.records.put_record.Tie as tie
 use Rattle.gates.proofs.records.put_record.Reads as reads
 use Rattle.gates.proofs.records.put_record.Lts as lts
 use Rattle.gates.proofs.words.put_word.Reads as put-word-reads
-use Rattle.gates.proofs.words.wide.Reads as wide-reads
 
 -- src/records.rt:52:20
 cast-at : tie.Need-cast-at
@@ -21,11 +17,11 @@ cast-at c = search needs
 mul-at : tie.Need-mul-at
 mul-at c = search needs
 
--- src/records.rt:53:32
-wide-requires : tie.Need-wide-requires
-wide-requires c κs = search needs
+-- src/records.rt:53:33
+cast-put-word : tie.Need-cast-put-word
+cast-put-word c = search needs
 
--- src/records.rt:53:54
+-- src/records.rt:53:50
 mul-put-word : tie.Need-mul-put-word
 mul-put-word c = search needs
 
@@ -72,8 +68,7 @@ returns c =
     let start = c .before .before .before .before .before .before .before .before .before .before .before .before .before .before .before .before .before .before .before .before in
     let r = start .args .r in
     four-words (now (start .args .bytes)) (16 * start .args .place .0) (r .kind + 256 * r .padding) (r .first) (r .second) (r .third)
-    (c .before .before .before .before .before .before .before .before .before .before .before .before .before .before .put-word .ensures ∙ ap (λ (k : ℕ). sets (now (start .args .bytes)) (16 * start .args .place .0) (bytesOf (k + 256 * r .padding))) (c .before .before .before .before .before .before .before .before .before .before .before .before .before .before .before .before .wide .ensures .0))
-    (c .before .before .before .before .before .before .before .before .before .before .put-word2 .ensures) (c .before .before .before .before .before .before .put-word3 .ensures) (c .before .before .put-word4 .ensures)
+    (c .before .before .before .before .before .before .before .before .before .before .before .before .before .before .put-word .ensures) (c .before .before .before .before .before .before .before .before .before .before .put-word2 .ensures) (c .before .before .before .before .before .before .put-word3 .ensures) (c .before .before .put-word4 .ensures)
 
 pub put-record-spec : {M : Type 1} → statement M
 put-record-spec =
@@ -81,7 +76,7 @@ put-record-spec =
     (tie.spec
     cast-at
     mul-at
-    wide-requires
+    cast-put-word
     mul-put-word
     add-put-word
     put-word-requires
