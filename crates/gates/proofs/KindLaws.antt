@@ -1,17 +1,16 @@
 -- What the table of kinds says of a kind number that is known, or known to lie in a range.
-use mathlib.Core.Path.{_≡_, refl, ap, sym, _∙_}
-use mathlib.Core.Bool.{Bool, true, false, Bool·beq, _&&_, _||_, false≢true}
+use mathlib.Core.Path.{_≡_, refl, ap, sym}
+use mathlib.Core.Bool.{Bool, true, false, _||_, false≢true}
 use mathlib.Core.List.{List, [], _∷_}
 use Prim.Native.Nat.{ℕ, _≤_, _<_}
-use lib.Dec.{T, eqb, eqb→eq}
+use lib.Dec.{T}
 use native.Mathlib.Omega.{arith}
-use lib.ListN.{length, getD, replicate, List·getD-eq-default}
+use lib.ListN.{replicate, List·getD-eq-default}
 use borrow.Author.Tests.{ne-eqb}
-use Rattle.gates.proofs.Table.{every, at, and-left, and-right}
-use Rattle.gates.specs.declared.kinds.Row.{Row}
+use Rattle.gates.proofs.Table.{at}
 use Rattle.gates.specs.declared.records.Record.{Record}
 use Rattle.gates.specs.declared.records.Decoded.{Decoded}
-use Rattle.gates.specs.Kinds.{Shape, on1, on2, on3, onBit, angled, unknown, shapes, shapeOf, hasAngle, rowOf}
+use Rattle.gates.specs.Kinds.{Shape, on1, on2, on3, onBit, angled, unknown, shapes, shapeOf, hasAngle}
 use Rattle.gates.specs.Gates.{has}
 use Rattle.gates.specs.Records.{decodedAs, namedBy}
 

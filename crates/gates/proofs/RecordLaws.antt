@@ -1,13 +1,13 @@
 -- Records and gates: which words a kind uses, and that decoding and encoding undo each other.
 use mathlib.Core.Path.{_≡_, refl, ap, sym, _∙_}
 use mathlib.Core.Bool.{Bool, true, false, _&&_, _||_, and-true, and-assoc}
-use mathlib.Core.List.{List, [], _∷_, _++_}
-use Prim.Native.Nat.{ℕ, zero, suc, _+_, _*_, _≤_, _<_}
+use mathlib.Core.List.{[], _∷_}
+use Prim.Native.Nat.{ℕ, zero, suc, _≤_, _<_}
 use native.Mathlib.Nat.{not-suc-le-zero}
 use native.Mathlib.Omega.{arith}
 use lib.Dec.{T, eqb, leb, leb→le}
-use lib.ListN.{length, getD, drop}
-use borrow.Author.Tests.{eq-eqb, ne-eqb, leb-true, leb-false}
+use lib.ListN.{drop}
+use borrow.Author.Tests.{ne-eqb, leb-true, leb-false}
 use Rattle.gates.proofs.Table.{at, and-left, and-right}
 use Rattle.gates.proofs.KindLaws.{unknown-named}
 use Rattle.gates.specs.declared.Gate.{Gate}
@@ -15,7 +15,7 @@ use Rattle.gates.specs.declared.kinds.Row.{Row}
 use Rattle.gates.specs.declared.records.Record.{Record}
 use Rattle.gates.specs.declared.records.Decoded.{Decoded}
 use Rattle.gates.specs.Kinds.{Shape, on1, on2, on3, onBit, angled, unknown, shapes, shapeOf, wiresIn, rowOf}
-use Rattle.gates.specs.Records.{usedOf, unusedOf, allZero, unlessUnused, namedBy, gateOf}
+use Rattle.gates.specs.Records.{usedOf, unusedOf, allZero, whenClean, namedBy, gateOf}
 
 -- ------------------------------------------------------------ the words that a kind uses
 
@@ -75,7 +75,7 @@ gate-kind r g e = go (leb 27 (r .kind)) refl
     go true h = absurd (never (namedBy r) g e (unknown-named r (leb-true 27 (r .kind) h)))
     go false h = leb-false 27 (r .kind) h
 
-gate-by : (r : Record) (d : Decoded) (clean : Bool) → d ≡ namedBy r → allZero (unusedOf r) ≡ clean → unlessUnused clean d ≡ gateOf r
+gate-by : (r : Record) (d : Decoded) (clean : Bool) → d ≡ namedBy r → allZero (unusedOf r) ≡ clean → whenClean clean d ≡ gateOf r
 unfolding gateOf
 gate-by r d clean e z = rw (e, ← z)
 

@@ -1,15 +1,14 @@
 -- Decoding and encoding undo each other, on gates, on records and on bytes.
-use mathlib.Core.Path.{_≡_, refl, subst, sym, _∙_}
+use mathlib.Core.Path.{_≡_, refl, ap, subst, sym, _∙_}
 use mathlib.Core.Bool.{Bool, true, false, _&&_}
-use mathlib.Core.List.{List, [], _∷_, _++_}
-use Prim.Native.Nat.{ℕ, zero, suc, _+_, _*_, _/_, _%_, _^_, _≤_, _<_}
-use native.Mathlib.Nat.{add-zero, zero-add, add-suc, suc-add, mod-eq-of-lt}
-use native.Mathlib.Numerals.{towards-suc}
+use mathlib.Core.List.{List, [], _∷_}
+use Prim.Native.Nat.{ℕ, zero, suc, _+_, _^_, _≤_, _<_}
+use native.Mathlib.Nat.{add-zero, zero-add, add-suc, suc-add}
 use native.Mathlib.Omega.{arith}
 use lib.Dec.{eqb}
 use lib.ListN.{length, getD, take, drop}
-use lib.Seq.{drop-cons, take-add, drop-drop}
 use borrow.Author.Tests.{eqb-true}
+use Rattle.gates.proofs.WordLaws.{word-of-bytes, first-byte, padding-of-head, head-word, word-taken, word-before}
 use Rattle.gates.specs.declared.Wire.{Wire}
 use Rattle.gates.specs.declared.Bit.{Bit}
 use Rattle.gates.specs.declared.Gate.{Gate}
@@ -19,7 +18,7 @@ use Rattle.gates.specs.declared.records.Decoded.{Decoded}
 use Rattle.gates.specs.Kinds.{Shape, on1, on2, on3, onBit, angled, unknown, shapes, shapeOf, wiresIn}
 use Rattle.gates.specs.Gates.{wire, bit, wiresOf}
 use Rattle.gates.specs.Words.{byteAt, wordAt, bytesOf}
-use Rattle.gates.specs.Records.{recordFrom, usedOf, unusedOf, allZero, decodedAs, unlessUnused, namedBy, gateOf, withWords, recordOf, recordBytes}
+use Rattle.gates.specs.Records.{recordFrom, usedOf, unusedOf, allZero, decodedAs, whenClean, namedBy, gateOf, withWords, recordOf, recordBytes}
 
 -- ------------------------------------------------------------ what the table says of each kind
 
@@ -42,87 +41,42 @@ abbrev Each : ℕ → List Shape → Type 0
 Each i [] = Unit {0}
 Each i (s ∷ ss) = Fit i s × Each (suc i) ss
 
+-- a pair, written in a row
+abbrev _then_ : {A B : Type 0} → A → B → A × B
+_then_ a b = (a, b)
+
+infixr 20 _then_
 table : Each 0 shapes
 unfolding shapes usedOf shapeOf recordOf wiresOf
-table = (
-  (refl, λ a. (refl, refl)),
-  (
-    (refl, λ a. (refl, refl)),
-    (
-      (refl, λ a. (refl, refl)),
-      (
-        (refl, λ a. (refl, refl)),
-        (
-          (refl, λ a. (refl, refl)),
-          (
-            (refl, λ a. (refl, refl)),
-            (
-              (refl, λ a. (refl, refl)),
-              (
-                tt,
-                (
-                  (refl, λ a b. (refl, refl)),
-                  (
-                    (refl, λ a b. (refl, refl)),
-                    (
-                      (refl, λ a b c. (refl, refl)),
-                      (
-                        (refl, λ a b c. (refl, refl)),
-                        (
-                          (refl, λ a b. (refl, refl)),
-                          (
-                            (refl, λ a. (refl, refl)),
-                            (
-                              tt,
-                              (
-                                (refl, λ a. (refl, refl)),
-                                (
-                                  (refl, λ a. (refl, refl)),
-                                  (
-                                    tt,
-                                    (
-                                      tt,
-                                      (
-                                        (refl, λ a b. (refl, refl)),
-                                        (
-                                          (refl, λ a b. (refl, refl)),
-                                          (
-                                            tt,
-                                            (
-                                              tt,
-                                              (
-                                                tt,
-                                                (
-                                                  tt,
-                                                  (
-                                                    (refl, λ a b. (refl, refl)),
-                                                    ((refl, λ a b c. (refl, refl)), tt),
-                                                  ),
-                                                ),
-                                              ),
-                                            ),
-                                          ),
-                                        ),
-                                      ),
-                                    ),
-                                  ),
-                                ),
-                              ),
-                            ),
-                          ),
-                        ),
-                      ),
-                    ),
-                  ),
-                ),
-              ),
-            ),
-          ),
-        ),
-      ),
-    ),
-  ),
-)
+table =
+    (refl, λ a. (refl, refl)) then
+    (refl, λ a. (refl, refl)) then
+    (refl, λ a. (refl, refl)) then
+    (refl, λ a. (refl, refl)) then
+    (refl, λ a. (refl, refl)) then
+    (refl, λ a. (refl, refl)) then
+    (refl, λ a. (refl, refl)) then
+    tt then
+    (refl, λ a b. (refl, refl)) then
+    (refl, λ a b. (refl, refl)) then
+    (refl, λ a b c. (refl, refl)) then
+    (refl, λ a b c. (refl, refl)) then
+    (refl, λ a b. (refl, refl)) then
+    (refl, λ a. (refl, refl)) then
+    tt then
+    (refl, λ a. (refl, refl)) then
+    (refl, λ a. (refl, refl)) then
+    tt then
+    tt then
+    (refl, λ a b. (refl, refl)) then
+    (refl, λ a b. (refl, refl)) then
+    tt then
+    tt then
+    tt then
+    tt then
+    (refl, λ a b. (refl, refl)) then
+    (refl, λ a b c. (refl, refl)) then
+    tt
 
 -- past the end stands `unknown`, of which nothing is said
 fit-at : (ss : List Shape) (i : ℕ) → Each i ss → (k : ℕ) → Fit (i + k) (getD ss k unknown)
@@ -154,7 +108,7 @@ unfolding unusedOf
 unused-zero r used e z = zero-first (r .padding) (drop used (words r)) (rw e at z)
 
 -- a gate comes only of a gate, and only where the test passed
-clean-gate : (clean : Bool) (d : Decoded) (g : Gate) → unlessUnused clean d ≡ Decoded.Gate g
+clean-gate : (clean : Bool) (d : Decoded) (g : Gate) → whenClean clean d ≡ Decoded.Gate g
     → (clean ≡ true) × (d ≡ Decoded.Gate g)
 clean-gate true (Decoded.Gate h) g e = (refl, e)
 clean-gate false (Decoded.Gate h) g e = ((cc), (cc))
@@ -235,60 +189,6 @@ pub wires-words : (r : Record) (g : Gate) → gateOf r ≡ Decoded.Gate g
     → wiresOf g ≡ take (wiresIn (shapeOf (r .kind))) (r .first ∷ r .second ∷ r .third ∷ [])
 wires-words r g e = decoded-has r g e .1
 
--- ------------------------------------------------------------ words and bytes
-
--- `omega` has to be told that the last byte is the whole of what is left
-word-of-bytes : (w : ℕ) → w < 2 ^ 32 → wordAt (bytesOf w) 0 ≡ w
-unfolding wordAt bytesOf
-word-of-bytes w h = let last : w / 16777216 % 256 ≡ w / 16777216 = omega arith in omega arith
-
-first-byte : (a n : ℕ) → a < 256 → (a + 256 * n) % 256 ≡ a
-first-byte a n h = omega arith
-
--- a record's first word is its kind, then its padding
-padding-of-head : (kind padding : ℕ) → kind < 2 ^ 8 → padding < 2 ^ 24
-    → let w = kind + 256 * padding in w / 256 % 256 + 256 * (w / 65536 % 256) + 65536 * (w / 16777216 % 256) ≡ padding
-unfolding wordAt bytesOf
-padding-of-head kind padding h l = omega (arith, word-of-bytes (kind + 256 * padding) (omega arith))
-
-head-word : (bytes : List ℕ) (at : ℕ)
-    → byteAt bytes at + 256 * (byteAt bytes (at + 1) + 256 * byteAt bytes (at + 2) + 65536 * byteAt bytes (at + 3)) ≡ wordAt bytes at
-unfolding wordAt
-head-word bytes at = omega arith
-
-bytes-of-word : (a b c d : ℕ) → a < 256 → b < 256 → c < 256 → d < 256
-    → bytesOf (a + 256 * b + 65536 * c + 16777216 * d) ≡ a ∷ b ∷ c ∷ d ∷ []
-unfolding bytesOf
-bytes-of-word a b c d ha hb hc hd =
-    let w : ℕ = a + 256 * b + 65536 * c + 16777216 * d in
-    let w₀ : w ≡ a + 256 * (b + 256 * (c + 256 * d)) = omega arith in
-    let w₁ : w / 256 ≡ b + 256 * (c + 256 * d) = omega arith in
-    let w₂ : w / 65536 ≡ c + 256 * d = omega arith in
-    let w₃ : w / 16777216 ≡ d = omega arith in
-    rw (w₁, w₂, w₃, w₀, first-byte a (b + 256 * (c + 256 * d)), first-byte b (c + 256 * d), first-byte c d, mod-eq-of-lt hd)
-
-take-four : (bytes : List ℕ) (at : ℕ) → at + 4 ≤ length bytes
-    → take 4 (drop at bytes) ≡ byteAt bytes at ∷ byteAt bytes (at + 1) ∷ byteAt bytes (at + 2) ∷ byteAt bytes (at + 3) ∷ []
-take-four bytes at room =
-    let h₀ : at < length bytes = omega arith in
-    let h₁ : suc at < length bytes = omega arith in
-    let h₂ : suc (suc at) < length bytes = omega arith in
-    let h₃ : suc (suc (suc at)) < length bytes = omega arith in
-    simp towards-suc
-    (rw (drop-cons bytes at 0, drop-cons bytes (suc at) 0, drop-cons bytes (suc (suc at)) 0, drop-cons bytes (suc (suc (suc at))) 0))
-
-word-taken : (bytes : List ℕ) (at : ℕ) → at + 4 ≤ length bytes → ((i : ℕ) → byteAt bytes i < 256)
-    → bytesOf (wordAt bytes at) ≡ take 4 (drop at bytes)
-unfolding wordAt
-word-taken bytes at room small =
-    bytes-of-word (byteAt bytes at) (byteAt bytes (at + 1)) (byteAt bytes (at + 2)) (byteAt bytes (at + 3))
-    (small at) (small (at + 1)) (small (at + 2)) (small (at + 3)) ∙ sym (take-four bytes at room)
-
--- a word and the n bytes behind it
-word-before : (bytes : List ℕ) (at n : ℕ) → at + 4 ≤ length bytes → ((i : ℕ) → byteAt bytes i < 256)
-    → bytesOf (wordAt bytes at) ++ take n (drop (at + 4) bytes) ≡ take (4 + n) (drop at bytes)
-word-before bytes at n room small = rw (word-taken bytes at room small, take-add, drop-drop)
-
 -- ------------------------------------------------------------ records and bytes
 
 -- a record whose fields fit their bytes
@@ -323,3 +223,13 @@ bytes-of-record bytes at room small =
     let h₃ : at + 4 + 4 + 4 + 4 ≤ length bytes = omega arith in
     rw (head-word bytes at, p, q, word-taken bytes (at + 4 + 4 + 4), word-before bytes (at + 4 + 4) 4)
     (rw (word-before bytes (at + 4) 8, word-before bytes at 12))
+
+-- ------------------------------------------------------------ gates and bytes
+
+pub gate-of-bytes : (g : Gate) → Fitting (recordOf g) → gateOf (recordFrom (recordBytes (recordOf g)) 0) ≡ Decoded.Gate g
+gate-of-bytes g fits = ap gateOf (record-of-bytes (recordOf g) fits) ∙ decode-encode g
+
+pub bytes-of-gate : (bytes : List ℕ) (at : ℕ) (g : Gate) → at + 16 ≤ length bytes → ((i : ℕ) → byteAt bytes i < 256)
+    → gateOf (recordFrom bytes at) ≡ Decoded.Gate g → recordBytes (recordOf g) ≡ take 16 (drop at bytes)
+bytes-of-gate bytes at g room small e =
+    ap recordBytes (encode-decode (recordFrom bytes at) g e) ∙ bytes-of-record bytes at room small

@@ -1,5 +1,5 @@
 -- Records: the bytes of a gate, and the gate of some bytes or why they are none. Document 01, "Records".
-use mathlib.Core.Bool.{Bool, true, false, cond, _&&_}
+use mathlib.Core.Bool.{Bool, true, cond, _&&_}
 use mathlib.Core.List.{List, [], _∷_, _++_}
 use Prim.Native.Nat.{ℕ, _+_, _*_}
 use lib.Dec.{eqb}
@@ -53,15 +53,16 @@ decodedAs unknown r = Decoded.Unknown
 unfoldable pub namedBy : Record → Decoded
 namedBy r = decodedAs (shapeOf (r .kind)) r
 
-abbrev pub unlessUnused : Bool → Decoded → Decoded
-unlessUnused clean (Decoded.Gate g) = cond clean (Decoded.Gate g) Decoded.NotZero
-unlessUnused clean Decoded.Angle = Decoded.Angle
-unlessUnused clean Decoded.Unknown = Decoded.Unknown
-unlessUnused clean Decoded.NotZero = Decoded.NotZero
+-- A gate only where what must be zero is.
+abbrev pub whenClean : Bool → Decoded → Decoded
+whenClean clean (Decoded.Gate g) = cond clean (Decoded.Gate g) Decoded.NotZero
+whenClean clean Decoded.Angle = Decoded.Angle
+whenClean clean Decoded.Unknown = Decoded.Unknown
+whenClean clean Decoded.NotZero = Decoded.NotZero
 
 -- The gate of a record, or why it is none: an angle, an unknown kind, or an unused byte or word that is not zero.
 unfoldable pub gateOf : Record → Decoded
-gateOf r = unlessUnused (allZero (unusedOf r)) (namedBy r)
+gateOf r = whenClean (allZero (unusedOf r)) (namedBy r)
 
 -- ------------------------------------------------------------ from a gate to bytes
 

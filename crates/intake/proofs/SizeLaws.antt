@@ -1,13 +1,11 @@
 -- What sizes that passed their tests are known to be.
-use mathlib.Core.Path.{_≡_, refl}
-use mathlib.Core.Bool.{Bool, true, false, not, _||_}
+use mathlib.Core.Path.{_≡_}
 use Prim.Native.Nat.{ℕ, _+_, _*_, _/_, _%_, _≤_}
 use native.Mathlib.Omega.{arith}
-use lib.Dec.{eqb, ltb}
 use borrow.Author.Tests.{ltb-false, eqb-true, not-false}
 use Rattle.intake.specs.declared.Tested.{Tested}
 use Rattle.intake.specs.declared.Sizes.{Sizes}
-use Rattle.intake.specs.Tests.{test, firstFailing, recordsIn, sizeTests}
+use Rattle.intake.specs.Tests.{firstFailing, recordsIn, sizeTests}
 use Rattle.intake.proofs.TestLaws.{first-passes, neither}
 
 pub record Sized (bytes : ℕ) (s : Sizes) : Type 0 where

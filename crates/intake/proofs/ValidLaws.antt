@@ -1,12 +1,12 @@
 -- A list that passed the tests of its records is a list of valid gates.
 use mathlib.Core.Path.{_≡_, refl, ap, sym, _∙_}
-use mathlib.Core.Bool.{Bool, true, false, not, _&&_, _||_, true≢false}
-use mathlib.Core.List.{List, [], _∷_, _++_}
-use Prim.Native.Nat.{ℕ, zero, suc, _+_, _≤_, _<_}
+use mathlib.Core.Bool.{Bool, true, false, _&&_, true≢false}
+use mathlib.Core.List.{List, [], _∷_}
+use Prim.Native.Nat.{ℕ, zero, suc, _+_, _<_}
 use native.Mathlib.Nat.{le-of-suc-le-suc, not-suc-le-zero, add-zero, add-suc, suc-add, zero-add}
 use lib.Dec.{T, eqb, leb}
 use lib.ListN.{length}
-use borrow.Author.Tests.{leb-false, eqb-true, eq-eqb, not-false}
+use borrow.Author.Tests.{leb-false, eqb-true, not-false}
 use Rattle.gates.specs.declared.Bit.{Bit}
 use Rattle.gates.specs.declared.Wire.{Wire}
 use Rattle.gates.specs.declared.Gate.{Gate}
@@ -14,12 +14,12 @@ use Rattle.gates.specs.declared.Gate.the-variants.{Measure}
 use Rattle.gates.specs.declared.records.Record.{Record}
 use Rattle.gates.specs.declared.records.Decoded.{Decoded}
 use Rattle.gates.specs.Kinds.{Shape, on1, on2, on3, onBit, angled, unknown, shapeOf, hasAngle}
-use Rattle.gates.specs.Gates.{wire, bit, wiresOf, has, twice, touches, Valid}
+use Rattle.gates.specs.Gates.{wire, bit, has, twice, Valid}
 use Rattle.gates.specs.Records.{recordAt, unusedOf, allZero, namedBy, gateOf, recordOf}
 use Rattle.gates.proofs.RecordLaws.{isKnown, known-below-27}
 use Rattle.gates.proofs.RoundTrip.{encode-decode, wires-words}
 use Rattle.intake.specs.declared.Tested.{Tested}
-use Rattle.intake.specs.Tests.{Test, firstFailing, recordsIn, operandWords, anyOver, operandTests, recordTests, recordsTests, listTests}
+use Rattle.intake.specs.Tests.{firstFailing, recordsIn, operandWords, anyOver, operandTests, recordTests, recordsTests, listTests}
 use Rattle.intake.proofs.TestLaws.{first-passes, both-accepted, neither}
 
 -- ------------------------------------------------------------ one record

@@ -1,3 +1,4 @@
+-- `intake::test_input` meets its contract.
 use mathlib.Core.Path.{sym, _∙_}
 use mathlib.Core.List.{_++_}
 use native.Mathlib.Omega.{arith}
@@ -9,26 +10,16 @@ use Rattle.intake.proofs.SizeLaws.{sized}
 use borrow.Author.Needs.{needs}
 use Rattle.intake.proofs.test_input.Statement.{statement}
 use Rattle.intake.proofs.test_input.Tie as tie
-use Rattle.intake.proofs.test_input.Reads as reads
-use Rattle.intake.proofs.test_input.Lts as lts
-use Rattle.intake.proofs.refused.Reads as refused-reads
-use Rattle.intake.proofs.test_journal_room.Reads as test-journal-room-reads
-use Rattle.intake.proofs.test_records.Reads as test-records-reads
-use Rattle.intake.proofs.test_sizes.Reads as test-sizes-reads
 
--- src/lib.rt:119:9
 test-sizes-requires : tie.Need-test-sizes-requires
 test-sizes-requires c κs = search needs
 
--- src/lib.rt:120:30
 enum-known-sizes : tie.Need-enum-known-sizes
 enum-known-sizes c = search needs
 
--- src/lib.rt:121:9
 refused-requires : tie.Need-refused-requires
 refused-requires c κs = search needs
 
--- src/lib.rt:121:9
 returns : tie.Need-returns
 returns c =
     c .refused .ensures
@@ -37,19 +28,15 @@ returns c =
 enum-told : tie.Need-enum-told
 enum-told c = search needs
 
--- src/lib.rt:123:9
 test-journal-room-requires : tie.Need-test-journal-room-requires
 test-journal-room-requires c κs = search needs
 
--- src/lib.rt:124:30
 enum-known-room : tie.Need-enum-known-room
 enum-known-room c = search needs
 
--- src/lib.rt:125:9
 refused-requires-2 : tie.Need-refused-requires-2
 refused-requires-2 c κs = search needs
 
--- src/lib.rt:125:9
 returns-2 : tie.Need-returns-2
 returns-2 c =
     c .refused2 .ensures
@@ -60,13 +47,11 @@ returns-2 c =
 enum-told-2 : tie.Need-enum-told-2
 enum-told-2 c = search needs
 
--- src/lib.rt:127:5
 test-records-requires : tie.Need-test-records-requires
 test-records-requires c κs =
     let known = sized (length (now (c .before .before .before .before .before .before .before .args .list))) (c .before .before .before .before .before .before .before .args .s) (sym (c .before .before .before .before .before .test-sizes .ensures) ∙ c .before .before .before .enum-told .given .1) in
     omega (arith, known .whole, known .records)
 
--- src/lib.rt:115:1
 returns-3 : tie.Need-returns-3
 returns-3 c =
     c .test-records .ensures

@@ -1,3 +1,4 @@
+-- `intake::test_journal_room` meets its contract.
 use mathlib.Core.Path.{_∙_}
 use borrow.Author.Tests.{lt-ltb, le-ltb}
 use Rattle.intake.specs.Tests.{firstFailing, journalTests}
@@ -5,34 +6,25 @@ use Rattle.intake.proofs.TestLaws.{room-short, room-enough}
 use borrow.Author.Needs.{needs}
 use Rattle.intake.proofs.test_journal_room.Statement.{statement}
 use Rattle.intake.proofs.test_journal_room.Tie as tie
-use Rattle.intake.proofs.test_journal_room.Reads as reads
-use Rattle.intake.proofs.test_journal_room.Lts as lts
-use Rattle.intake.proofs.refused.Reads as refused-reads
 
--- src/lib.rt:71:34
 enum-told : tie.Need-enum-told
 enum-told c = search needs
 
--- src/lib.rt:72:28
 enum-known-journal : tie.Need-enum-known-journal
 enum-known-journal c = search needs
 
--- src/lib.rt:74:17
 refused-requires : tie.Need-refused-requires
 refused-requires c κs = search needs
 
--- src/lib.rt:67:1
 returns : tie.Need-returns
 unfolding firstFailing journalTests
 returns c = rw (c .enum-told .given .1)
 
--- src/lib.rt:67:1
 returns-2 : tie.Need-returns-2
 unfolding firstFailing journalTests
 returns-2 c =
     c .refused .ensures ∙ simp (c .before .before .before .journal .given .1, lt-ltb _ _ (room-short _ _ (c .before .if1 .taken)))
 
--- src/lib.rt:67:1
 returns-3 : tie.Need-returns-3
 unfolding firstFailing journalTests
 returns-3 c = simp (c .before .before .journal .given .1, le-ltb _ _ (room-enough _ _ (c .if1 .left)))

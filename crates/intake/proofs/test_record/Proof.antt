@@ -1,69 +1,50 @@
+-- `intake::test_record` meets its contract.
 use mathlib.Core.Path.{sym, _∙_}
 use Rattle.gates.proofs.RecordLaws.{known-kind}
 use Rattle.intake.proofs.RecordLaws.{tested-as}
 use borrow.Author.Needs.{needs}
 use Rattle.intake.proofs.test_record.Statement.{statement}
 use Rattle.intake.proofs.test_record.Tie as tie
-use Rattle.intake.proofs.test_record.Reads as reads
-use Rattle.intake.proofs.test_record.Lts as lts
-use Rattle.gates.proofs.records.gate_of.Reads as gate-of-reads
-use Rattle.gates.proofs.records.record_at.Reads as record-at-reads
-use Rattle.intake.proofs.operands.test_operands.Reads as test-operands-reads
-use Rattle.intake.proofs.refused.Reads as refused-reads
 
--- src/lib.rt:87:9
 record-at-requires : tie.Need-record-at-requires
 record-at-requires c κs = search needs
 
--- src/lib.rt:88:9
 gate-of-requires : tie.Need-gate-of-requires
 gate-of-requires c κs = search needs
 
--- src/lib.rt:90:29
 enum-told : tie.Need-enum-told
 enum-told c = search needs
 
--- src/lib.rt:90:29
 test-operands-requires : tie.Need-test-operands-requires
 test-operands-requires c κs = known-kind _ _ (sym (c .before .before .gate-of .ensures) ∙ c .enum-told .given .1)
 
--- src/lib.rt:91:27
 enum-told-2 : tie.Need-enum-told-2
 enum-told-2 c = search needs
 
--- src/lib.rt:91:27
 refused-requires : tie.Need-refused-requires
 refused-requires c κs = search needs
 
--- src/lib.rt:92:29
 enum-told-3 : tie.Need-enum-told-3
 enum-told-3 c = search needs
 
--- src/lib.rt:92:29
 refused-requires-2 : tie.Need-refused-requires-2
 refused-requires-2 c κs = search needs
 
--- src/lib.rt:93:29
 enum-told-4 : tie.Need-enum-told-4
 enum-told-4 c = search needs
 
--- src/lib.rt:93:29
 refused-requires-3 : tie.Need-refused-requires-3
 refused-requires-3 c κs = search needs
 
--- src/lib.rt:83:1
 returns : tie.Need-returns
 returns c = c .test-operands .ensures ∙ tested-as (c .before .before .before .before .before .before .args .wires) (c .before .before .before .before .before .before .args .bits) (c .before .before .before .before .before .before .args .place .0) _ _ _ _ (c .before .before .before .before .record-at .ensures) (c .before .before .before .gate-of .ensures) (c .before .enum-told .given .1)
 
--- src/lib.rt:83:1
 returns-2 : tie.Need-returns-2
 returns-2 c = c .refused .ensures ∙ tested-as (c .before .before .before .before .before .before .args .wires) (c .before .before .before .before .before .before .args .bits) (c .before .before .before .before .before .before .args .place .0) _ _ _ _ (c .before .before .before .before .record-at .ensures) (c .before .before .before .gate-of .ensures) (c .before .enum-told2 .given .1)
 
--- src/lib.rt:83:1
 returns-3 : tie.Need-returns-3
 returns-3 c = c .refused2 .ensures ∙ tested-as (c .before .before .before .before .before .before .args .wires) (c .before .before .before .before .before .before .args .bits) (c .before .before .before .before .before .before .args .place .0) _ _ _ _ (c .before .before .before .before .record-at .ensures) (c .before .before .before .gate-of .ensures) (c .before .enum-told3 .given .1)
 
--- src/lib.rt:83:1
 returns-4 : tie.Need-returns-4
 returns-4 c = c .refused3 .ensures ∙ tested-as (c .before .before .before .before .before .before .args .wires) (c .before .before .before .before .before .before .args .bits) (c .before .before .before .before .before .before .args .place .0) _ _ _ _ (c .before .before .before .before .record-at .ensures) (c .before .before .before .gate-of .ensures) (c .before .enum-told4 .given .1)
 

@@ -1,5 +1,6 @@
+-- `intake::test_records` meets its contract.
 use Prim.Native.Nat.{_-_, _/_, _≤_}
-use mathlib.Core.Path.{_≡_, refl, sym, _∙_}
+use mathlib.Core.Path.{_≡_, sym, _∙_}
 use native.Mathlib.Nat.{sub-zero}
 use native.Mathlib.Omega.{arith}
 use borrow.Author.Needs.{needs}
@@ -9,10 +10,6 @@ use Rattle.intake.specs.Tests.{firstFailing, recordsTests, listTests}
 use Rattle.intake.proofs.TestLaws.{record-accepted, record-refused, records-end}
 use Rattle.intake.proofs.test_records.Statement.{statement}
 use Rattle.intake.proofs.test_records.Tie as tie
-use Rattle.intake.proofs.test_records.Reads as reads
-use Rattle.intake.proofs.test_records.Lts as lts
-use Rattle.intake.proofs.refused.Reads as refused-reads
-use Rattle.intake.proofs.test_record.Reads as test-record-reads
 
 abbrev Inv-loop : tie.InvT-loop
 Inv-loop list wires bits g i₀ i =
@@ -21,27 +18,21 @@ Inv-loop list wires bits g i₀ i =
 abbrev μ-loop : tie.MeasureT-loop
 μ-loop list wires bits g i₀ i = g - i
 
--- src/lib.rt:104:5
 loop-holds : tie.Need-loop-holds Inv-loop μ-loop
 loop-holds c = (search needs, rw sub-zero)
 
--- src/lib.rt:105:49
 cast-t11 : tie.Need-cast-t11 Inv-loop μ-loop
 cast-t11 c = omega arith
 
--- src/lib.rt:105:13
 test-record-requires : tie.Need-test-record-requires Inv-loop μ-loop
 test-record-requires c κs = omega arith
 
--- src/lib.rt:106:34
 enum-known-tested : tie.Need-enum-known-tested Inv-loop μ-loop
 enum-known-tested c = search needs
 
--- src/lib.rt:107:13
 refused-requires : tie.Need-refused-requires Inv-loop μ-loop
 refused-requires c κs = search needs
 
--- src/lib.rt:107:13
 returns : tie.Need-returns Inv-loop μ-loop
 returns c =
     c .refused .ensures
@@ -53,15 +44,12 @@ returns c =
 enum-told : tie.Need-enum-told Inv-loop μ-loop
 enum-told c = search needs
 
--- src/lib.rt:109:9
 add-i : tie.Need-add-i Inv-loop μ-loop
 add-i c = omega arith
 
--- src/lib.rt:104:5
 loop-less : tie.Need-loop-less Inv-loop μ-loop
 loop-less c = omega arith
 
--- src/lib.rt:104:5
 loop-again : tie.Need-loop-again Inv-loop μ-loop
 loop-again c = (
   omega arith,
@@ -69,7 +57,6 @@ loop-again c = (
       ∙ record-accepted (c .before .before .before .before .before .before .args .wires) (c .before .before .before .before .before .before .args .bits) (now (c .before .before .before .before .before .before .args .list)) (length (now (c .before .before .before .before .before .before .args .list)) / 16) (c .before .before .before .before .loop .i) (c .before .before .before .loop-test .taken) (sym (c .before .before .test-record .ensures) ∙ c .enum-told .given .1),
 )
 
--- src/lib.rt:98:1
 returns-2 : tie.Need-returns-2 Inv-loop μ-loop
 returns-2 c = sym (c .before .loop .inv .1 ∙ records-end (c .before .before .before .args .wires) (c .before .before .before .args .bits) (now (c .before .before .before .args .list)) (length (now (c .before .before .before .args .list)) / 16) (c .before .loop .i) (c .loop-test .left))
 

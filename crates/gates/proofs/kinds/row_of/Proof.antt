@@ -1,20 +1,16 @@
+-- `gates::kinds::row_of` meets its contract.
 use lib.ListN.{List·getD-map}
 use borrow.Author.Needs.{needs}
 use Rattle.gates.specs.Kinds.{unknown, shapes, shapeOf, rowIn}
 use Rattle.gates.proofs.kinds.row_of.Statement.{statement}
 use Rattle.gates.proofs.kinds.row_of.Tie as tie
-use Rattle.gates.proofs.kinds.row_of.Reads as reads
-use Rattle.gates.proofs.kinds.row_of.Lts as lts
 
--- src/kinds.rt:153:5
 mul-result : tie.Need-mul-result
 mul-result c = search needs
 
--- src/kinds.rt:153:5
 array-copy-out-result : tie.Need-array-copy-out-result
 array-copy-out-result c = search needs
 
--- src/kinds.rt:149:1
 returns : tie.Need-returns
 unfolding shapes shapeOf
 returns c = List·getD-map rowIn shapes (c .before .args .kind) unknown

@@ -1,54 +1,40 @@
+-- `gates::records::gate_of` meets its contract.
 use mathlib.Core.Path.{sym, _∙_}
 use Rattle.gates.proofs.RecordLaws.{gate-kind, gate-clean, gate-unclean, gate-angle, gate-unknown, gate-not-zero}
 use borrow.Author.Needs.{needs}
 use Rattle.gates.proofs.records.gate_of.Statement.{statement}
 use Rattle.gates.proofs.records.gate_of.Tie as tie
-use Rattle.gates.proofs.records.gate_of.Reads as reads
-use Rattle.gates.proofs.records.gate_of.Lts as lts
-use Rattle.gates.proofs.records.named_by.Reads as named-by-reads
-use Rattle.gates.proofs.records.unused_are_zero.Reads as unused-are-zero-reads
 
--- src/records.rt:129:9
 named-by-requires : tie.Need-named-by-requires
 named-by-requires c κs = search needs
 
--- src/records.rt:132:16
 enum-told : tie.Need-enum-told
 enum-told c = search needs
 
--- src/records.rt:132:16
 unused-are-zero-requires : tie.Need-unused-are-zero-requires
 unused-are-zero-requires c κs = gate-kind (c .before .before .before .args .r) _ (sym (c .before .before .named-by .ensures) ∙ c .enum-told .given .1)
 
--- src/records.rt:138:27
 enum-told-2 : tie.Need-enum-told-2
 enum-told-2 c = search needs
 
--- src/records.rt:139:29
 enum-told-3 : tie.Need-enum-told-3
 enum-told-3 c = search needs
 
--- src/records.rt:140:29
 enum-told-4 : tie.Need-enum-told-4
 enum-told-4 c = search needs
 
--- src/records.rt:126:1
 returns : tie.Need-returns
 returns c = gate-clean (c .before .before .before .before .before .args .r) _ _ (c .before .before .before .before .named-by .ensures) (c .before .before .enum-told .given .1) (sym (c .before .unused-are-zero .ensures) ∙ c .if1 .taken)
 
--- src/records.rt:126:1
 returns-2 : tie.Need-returns-2
 returns-2 c = gate-unclean (c .before .before .before .before .before .args .r) _ _ (c .before .before .before .before .named-by .ensures) (c .before .before .enum-told .given .1) (sym (c .before .unused-are-zero .ensures) ∙ c .if1 .left)
 
--- src/records.rt:126:1
 returns-3 : tie.Need-returns-3
 returns-3 c = gate-angle (c .before .before .before .args .r) _ (c .before .before .named-by .ensures) (c .enum-told2 .given .1)
 
--- src/records.rt:126:1
 returns-4 : tie.Need-returns-4
 returns-4 c = gate-unknown (c .before .before .before .args .r) _ (c .before .before .named-by .ensures) (c .enum-told3 .given .1)
 
--- src/records.rt:126:1
 returns-5 : tie.Need-returns-5
 returns-5 c = gate-not-zero (c .before .before .before .args .r) _ (c .before .before .named-by .ensures) (c .enum-told4 .given .1)
 

@@ -1,3 +1,4 @@
+-- `gates::records::named_by` meets its contract.
 use mathlib.Core.Path.{sym}
 use mathlib.Core.Logic.{⊎-elim}
 use native.Mathlib.Nat.{le-trans}
@@ -6,114 +7,90 @@ use Rattle.gates.specs.Kinds.{shapes, shapeOf}
 use Rattle.gates.proofs.KindLaws.{named-at, angle-else, unknown-else}
 use Rattle.gates.proofs.records.named_by.Statement.{statement}
 use Rattle.gates.proofs.records.named_by.Tie as tie
-use Rattle.gates.proofs.records.named_by.Reads as reads
-use Rattle.gates.proofs.records.named_by.Lts as lts
 
--- src/records.rt:60:1
 returns : tie.Need-returns
 unfolding shapeOf shapes
 returns c = named-at (c .before .args .r) 0 (c .match .keys1)
 
--- src/records.rt:60:1
 returns-2 : tie.Need-returns-2
 unfolding shapeOf shapes
 returns-2 c = named-at (c .before .args .r) 1 (c .match .keys2)
 
--- src/records.rt:60:1
 returns-3 : tie.Need-returns-3
 unfolding shapeOf shapes
 returns-3 c = named-at (c .before .args .r) 2 (c .match .keys3)
 
--- src/records.rt:60:1
 returns-4 : tie.Need-returns-4
 unfolding shapeOf shapes
 returns-4 c = named-at (c .before .args .r) 3 (c .match .keys4)
 
--- src/records.rt:60:1
 returns-5 : tie.Need-returns-5
 unfolding shapeOf shapes
 returns-5 c = named-at (c .before .args .r) 4 (c .match .keys5)
 
--- src/records.rt:60:1
 returns-6 : tie.Need-returns-6
 unfolding shapeOf shapes
 returns-6 c = named-at (c .before .args .r) 5 (c .match .keys6)
 
--- src/records.rt:60:1
 returns-7 : tie.Need-returns-7
 unfolding shapeOf shapes
 returns-7 c = named-at (c .before .args .r) 6 (c .match .keys7)
 
--- src/records.rt:60:1
 returns-8 : tie.Need-returns-8
 unfolding shapeOf shapes
 returns-8 c = named-at (c .before .args .r) 8 (c .match .keys8)
 
--- src/records.rt:60:1
 returns-9 : tie.Need-returns-9
 unfolding shapeOf shapes
 returns-9 c = named-at (c .before .args .r) 9 (c .match .keys9)
 
--- src/records.rt:60:1
 returns-10 : tie.Need-returns-10
 unfolding shapeOf shapes
 returns-10 c = named-at (c .before .args .r) 10 (c .match .keys10)
 
--- src/records.rt:60:1
 returns-11 : tie.Need-returns-11
 unfolding shapeOf shapes
 returns-11 c = named-at (c .before .args .r) 11 (c .match .keys11)
 
--- src/records.rt:60:1
 returns-12 : tie.Need-returns-12
 unfolding shapeOf shapes
 returns-12 c = named-at (c .before .args .r) 12 (c .match .keys12)
 
--- src/records.rt:60:1
 returns-13 : tie.Need-returns-13
 unfolding shapeOf shapes
 returns-13 c = named-at (c .before .args .r) 13 (c .match .keys13)
 
--- src/records.rt:60:1
 returns-14 : tie.Need-returns-14
 unfolding shapeOf shapes
 returns-14 c = named-at (c .before .args .r) 15 (c .match .keys14)
 
--- src/records.rt:60:1
 returns-15 : tie.Need-returns-15
 unfolding shapeOf shapes
 returns-15 c = named-at (c .before .args .r) 16 (c .match .keys15)
 
--- src/records.rt:60:1
 returns-16 : tie.Need-returns-16
 unfolding shapeOf shapes
 returns-16 c = named-at (c .before .args .r) 19 (c .match .keys16)
 
--- src/records.rt:60:1
 returns-17 : tie.Need-returns-17
 unfolding shapeOf shapes
 returns-17 c = named-at (c .before .args .r) 20 (c .match .keys17)
 
--- src/records.rt:60:1
 returns-18 : tie.Need-returns-18
 unfolding shapeOf shapes
 returns-18 c = named-at (c .before .args .r) 25 (c .match .keys18)
 
--- src/records.rt:60:1
 returns-19 : tie.Need-returns-19
 unfolding shapeOf shapes
 returns-19 c = named-at (c .before .args .r) 26 (c .match .keys19)
 
--- src/records.rt:60:1
 returns-20 : tie.Need-returns-20
 returns-20 c = sym (unknown-else (c .before .before .args .r) (c .if1 .left) (c .before .match .rest .0))
 
--- src/records.rt:60:1
 returns-21 : tie.Need-returns-21
 unfolding shapeOf shapes
 returns-21 c = ⊎-elim (named-at (c .before .args .r) 7) (named-at (c .before .args .r) 14) (c .match .keys20)
 
--- src/records.rt:60:1
 returns-22 : tie.Need-returns-22
 returns-22 c = sym (angle-else (c .before .before .args .r) (le-trans (c .if1 .taken) (lit≤ tt)) (c .before .match .rest .0))
 

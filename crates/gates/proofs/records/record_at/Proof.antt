@@ -1,3 +1,4 @@
+-- `gates::records::record_at` meets its contract.
 use native.Mathlib.Omega.{arith}
 use Prim.Native.Nat.{ℕ, _*_, _/_, _%_, _<_}
 use mathlib.Core.Path.{ap, _∙_}
@@ -7,51 +8,37 @@ use Rattle.gates.specs.Records.{recordFrom}
 use borrow.Author.Needs.{needs}
 use Rattle.gates.proofs.records.record_at.Statement.{statement}
 use Rattle.gates.proofs.records.record_at.Tie as tie
-use Rattle.gates.proofs.records.record_at.Reads as reads
-use Rattle.gates.proofs.records.record_at.Lts as lts
-use Rattle.gates.proofs.words.word_at.Reads as word-at-reads
 
--- src/records.rt:36:20
 cast-at : tie.Need-cast-at
 cast-at c = search needs
 
--- src/records.rt:36:14
 mul-at : tie.Need-mul-at
 mul-at c = search needs
 
--- src/records.rt:37:9
 word-at-requires : tie.Need-word-at-requires
 word-at-requires c κs = search needs
 
--- src/records.rt:39:15
 cast-t7 : tie.Need-cast-t7
 cast-t7 c = search needs
 
--- src/records.rt:41:38
 add-word-at : tie.Need-add-word-at
 add-word-at c = search needs
 
--- src/records.rt:41:16
 word-at-requires-2 : tie.Need-word-at-requires-2
 word-at-requires-2 c κs = search needs
 
--- src/records.rt:42:39
 add-word-at-2 : tie.Need-add-word-at-2
 add-word-at-2 c = search needs
 
--- src/records.rt:42:17
 word-at-requires-3 : tie.Need-word-at-requires-3
 word-at-requires-3 c κs = search needs
 
--- src/records.rt:43:38
 add-word-at-3 : tie.Need-add-word-at-3
 add-word-at-3 c = search needs
 
--- src/records.rt:43:16
 word-at-requires-4 : tie.Need-word-at-requires-4
 word-at-requires-4 c κs = search needs
 
--- src/records.rt:32:1
 returns : tie.Need-returns
 unfolding recordFrom
 returns c =

@@ -1,16 +1,12 @@
+-- `gates::records::unused_are_zero` meets its contract.
 use Rattle.gates.proofs.RecordLaws.{unused-by-count}
 use borrow.Author.Needs.{needs}
 use Rattle.gates.proofs.records.unused_are_zero.Statement.{statement}
 use Rattle.gates.proofs.records.unused_are_zero.Tie as tie
-use Rattle.gates.proofs.records.unused_are_zero.Reads as reads
-use Rattle.gates.proofs.records.unused_are_zero.Lts as lts
-use Rattle.gates.proofs.records.words_used.Reads as words-used-reads
 
--- src/records.rt:124:9
 words-used-requires : tie.Need-words-used-requires
 words-used-requires c κs = search needs
 
--- src/records.rt:120:1
 returns : tie.Need-returns
 returns c =
     let used = c .before .before .before .words-used .ensures in

@@ -1,3 +1,4 @@
+-- `gates::records::words_used` meets its contract.
 use mathlib.Core.Path.{ap, sym, _∙_}
 use lib.Dec.{lit≤}
 use Rattle.gates.specs.declared.kinds.Row.{Row}
@@ -6,20 +7,14 @@ use Rattle.gates.proofs.RecordLaws.{row-small, used-wires}
 use borrow.Author.Needs.{needs}
 use Rattle.gates.proofs.records.words_used.Statement.{statement}
 use Rattle.gates.proofs.records.words_used.Tie as tie
-use Rattle.gates.proofs.records.words_used.Reads as reads
-use Rattle.gates.proofs.records.words_used.Lts as lts
-use Rattle.gates.proofs.kinds.row_of.Reads as row-of-reads
 
--- src/records.rt:118:9
 returns : tie.Need-returns
 unfolding usedOf
 returns c = (sym (ap usedOf (c .if1 .taken)), lit≤ tt, lit≤ tt)
 
--- src/records.rt:120:9
 row-of-requires : tie.Need-row-of-requires
 row-of-requires c κs = search needs
 
--- src/records.rt:113:1
 returns-2 : tie.Need-returns-2
 returns-2 c =
     let kind = c .before .before .args .kind in

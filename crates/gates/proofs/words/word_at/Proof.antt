@@ -1,80 +1,60 @@
+-- `gates::words::word_at` meets its contract.
 use borrow.Author.Needs.{needs}
 use Rattle.gates.specs.Words.{wordAt}
 use Rattle.gates.proofs.words.word_at.Statement.{statement}
 use Rattle.gates.proofs.words.word_at.Tie as tie
-use Rattle.gates.proofs.words.word_at.Reads as reads
-use Rattle.gates.proofs.words.word_at.Lts as lts
-use Rattle.gates.proofs.words.wide.Reads as wide-reads
 
--- src/words.rt:19:10
 shared-slice-read-wide : tie.Need-shared-slice-read-wide
 shared-slice-read-wide c = search needs
 
--- src/words.rt:19:5
 wide-requires : tie.Need-wide-requires
 wide-requires c κs = search needs
 
--- src/words.rt:19:40
 add-wide : tie.Need-add-wide
 add-wide c = search needs
 
--- src/words.rt:19:34
 shared-slice-read-wide-2 : tie.Need-shared-slice-read-wide-2
 shared-slice-read-wide-2 c = search needs
 
--- src/words.rt:19:29
 wide-requires-2 : tie.Need-wide-requires-2
 wide-requires-2 c κs = search needs
 
--- src/words.rt:19:23
 mul-result : tie.Need-mul-result
 mul-result c = search needs
 
--- src/words.rt:19:5
 add-result : tie.Need-add-result
 add-result c = search needs
 
--- src/words.rt:19:70
 add-wide-2 : tie.Need-add-wide-2
 add-wide-2 c = search needs
 
--- src/words.rt:19:64
 shared-slice-read-wide-3 : tie.Need-shared-slice-read-wide-3
 shared-slice-read-wide-3 c = search needs
 
--- src/words.rt:19:59
 wide-requires-3 : tie.Need-wide-requires-3
 wide-requires-3 c κs = search needs
 
--- src/words.rt:19:51
 mul-result-2 : tie.Need-mul-result-2
 mul-result-2 c = search needs
 
--- src/words.rt:19:5
 add-result-2 : tie.Need-add-result-2
 add-result-2 c = search needs
 
--- src/words.rt:19:103
 add-wide-3 : tie.Need-add-wide-3
 add-wide-3 c = search needs
 
--- src/words.rt:19:97
 shared-slice-read-wide-4 : tie.Need-shared-slice-read-wide-4
 shared-slice-read-wide-4 c = search needs
 
--- src/words.rt:19:92
 wide-requires-4 : tie.Need-wide-requires-4
 wide-requires-4 c κs = search needs
 
--- src/words.rt:19:81
 mul-result-3 : tie.Need-mul-result-3
 mul-result-3 c = search needs
 
--- src/words.rt:19:5
 add-result-3 : tie.Need-add-result-3
 add-result-3 c = search needs
 
--- src/words.rt:15:1
 returns : tie.Need-returns
 unfolding wordAt
 returns c = cc

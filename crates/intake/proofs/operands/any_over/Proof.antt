@@ -1,24 +1,18 @@
+-- `intake::operands::any_over` meets its contract.
 use Rattle.intake.proofs.TestLaws.{over-by-count}
 use borrow.Author.Needs.{needs}
 use Rattle.intake.proofs.operands.any_over.Statement.{statement}
 use Rattle.intake.proofs.operands.any_over.Tie as tie
-use Rattle.intake.proofs.operands.any_over.Reads as reads
-use Rattle.intake.proofs.operands.any_over.Lts as lts
-use Rattle.intake.proofs.operands.wire_over.Reads as wire-over-reads
 
--- src/operands.rt:34:5
 wire-over-requires : tie.Need-wire-over-requires
 wire-over-requires c κs = search needs
 
--- src/operands.rt:34:43
 wire-over-requires-2 : tie.Need-wire-over-requires-2
 wire-over-requires-2 c κs = search needs
 
--- src/operands.rt:34:82
 wire-over-requires-3 : tie.Need-wire-over-requires-3
 wire-over-requires-3 c κs = search needs
 
--- src/operands.rt:30:1
 returns : tie.Need-returns
 returns c =
     let start = c .before .before .before in

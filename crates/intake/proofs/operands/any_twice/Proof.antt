@@ -1,10 +1,8 @@
+-- `intake::operands::any_twice` meets its contract.
 use Rattle.intake.proofs.TestLaws.{twice-by-count}
 use Rattle.intake.proofs.operands.any_twice.Statement.{statement}
 use Rattle.intake.proofs.operands.any_twice.Tie as tie
-use Rattle.intake.proofs.operands.any_twice.Reads as reads
-use Rattle.intake.proofs.operands.any_twice.Lts as lts
 
--- src/operands.rt:38:1
 returns : tie.Need-returns
 returns c =
     let start = c .before .before .before .before .before .before in

@@ -1,3 +1,4 @@
+-- `intake::operands::test_operands` meets its contract.
 use mathlib.Core.Path.{ap, sym, _∙_}
 use mathlib.Core.Bool.{Bool, _&&_}
 use lib.Dec.{eqb}
@@ -8,56 +9,39 @@ use Rattle.intake.proofs.TestLaws.{on-operands}
 use borrow.Author.Needs.{needs}
 use Rattle.intake.proofs.operands.test_operands.Statement.{statement}
 use Rattle.intake.proofs.operands.test_operands.Tie as tie
-use Rattle.intake.proofs.operands.test_operands.Reads as reads
-use Rattle.intake.proofs.operands.test_operands.Lts as lts
-use Rattle.gates.proofs.kinds.row_of.Reads as row-of-reads
-use Rattle.intake.proofs.operands.any_over.Reads as any-over-reads
-use Rattle.intake.proofs.operands.any_twice.Reads as any-twice-reads
-use Rattle.intake.proofs.operands.bit_over.Reads as bit-over-reads
-use Rattle.intake.proofs.refused.Reads as refused-reads
 
--- src/operands.rt:51:9
 row-of-requires : tie.Need-row-of-requires
 row-of-requires c κs = search needs
 
--- src/operands.rt:55:8
 any-over-requires : tie.Need-any-over-requires
 any-over-requires c κs = row-small _ _ (c .row-of .ensures) (c .before .pre)
 
--- src/operands.rt:56:9
 refused-requires : tie.Need-refused-requires
 refused-requires c κs = search needs
 
--- src/operands.rt:56:9
 returns : tie.Need-returns
 unfolding firstFailing operandTests
 returns c =
     c .refused .ensures ∙ simp (on-operands (anyOver (c .before .before .before .before .args .wires)) (c .before .before .before .before .args .r) _ _ (c .before .before .before .row-of .ensures) (c .before .before .any-over .ensures) ∙ c .before .if1 .taken)
 
--- src/operands.rt:58:8
 any-twice-requires : tie.Need-any-twice-requires
 any-twice-requires c κs = row-small _ _ (c .before .before .row-of .ensures) (c .before .before .before .pre)
 
--- src/operands.rt:59:9
 refused-requires-2 : tie.Need-refused-requires-2
 refused-requires-2 c κs = search needs
 
--- src/operands.rt:59:9
 returns-2 : tie.Need-returns-2
 unfolding firstFailing operandTests
 returns-2 c =
     c .refused2 .ensures
     ∙ simp (on-operands (anyOver (c .before .before .before .before .before .before .args .wires)) (c .before .before .before .before .before .before .args .r) _ _ (c .before .before .before .before .before .row-of .ensures) (c .before .before .before .before .any-over .ensures) ∙ c .before .before .before .if1 .left, on-operands twice (c .before .before .before .before .before .before .args .r) _ _ (c .before .before .before .before .before .row-of .ensures) (c .before .before .any-twice .ensures) ∙ c .before .if2 .taken)
 
--- src/operands.rt:61:23
 bit-over-requires : tie.Need-bit-over-requires
 bit-over-requires c κs = search needs
 
--- src/operands.rt:62:9
 refused-requires-3 : tie.Need-refused-requires-3
 refused-requires-3 c κs = search needs
 
--- src/operands.rt:62:9
 returns-3 : tie.Need-returns-3
 unfolding firstFailing operandTests
 returns-3 c =
@@ -68,7 +52,6 @@ returns-3 c =
       ap (λ (t : Bool). eqb (c .before .before .before .before .before .before .before .before .args .r .kind) 12 && t) (sym (c .before .before .bit-over .ensures)) ∙ c .before .if3 .taken,
     )
 
--- src/operands.rt:46:1
 returns-4 : tie.Need-returns-4
 unfolding firstFailing operandTests
 returns-4 c =
