@@ -16,21 +16,21 @@ use Rattle.gates.specs.Records.{decodedAs, namedBy}
 
 -- ------------------------------------------------------------ a kind number that is known
 
-pub named-at : (r : Record) (kind : ℕ) → r .kind ≡ kind → decodedAs (shapeOf kind) r ≡ namedBy r
+pub named-at : (k kind a b c : ℕ) → k ≡ kind → decodedAs (shapeOf kind) a b c ≡ namedBy k a b c
 unfolding namedBy
-named-at r kind e = ap (λ (k : ℕ). decodedAs (shapeOf k) r) (sym e)
+named-at k kind a b c e = ap (λ (n : ℕ). decodedAs (shapeOf n) a b c) (sym e)
 
 pub unknown-from : (kind : ℕ) → 27 ≤ kind → shapeOf kind ≡ unknown
 unfolding shapeOf shapes
 unknown-from kind h = List·getD-eq-default shapes unknown h
 
-pub angle-named : (s : Shape) (r : Record) → hasAngle s ≡ true → decodedAs s r ≡ Decoded.Angle
-angle-named (on1 f) r e = absurd (false≢true e)
-angle-named (on2 f) r e = absurd (false≢true e)
-angle-named (on3 f) r e = absurd (false≢true e)
-angle-named (onBit f) r e = absurd (false≢true e)
-angle-named (angled n) r e = refl
-angle-named unknown r e = absurd (false≢true e)
+pub angle-named : (s : Shape) (a b c : ℕ) → hasAngle s ≡ true → decodedAs s a b c ≡ Decoded.Angle
+angle-named (on1 f) a b c e = absurd (false≢true e)
+angle-named (on2 f) a b c e = absurd (false≢true e)
+angle-named (on3 f) a b c e = absurd (false≢true e)
+angle-named (onBit f) a b c e = absurd (false≢true e)
+angle-named (angled n) a b c e = refl
+angle-named unknown a b c e = absurd (false≢true e)
 
 -- ------------------------------------------------------------ what is left when the other arms of a match are not taken
 
@@ -56,18 +56,23 @@ left-of true b t e = refl
 left-of false true t e = absurd (false≢true (sym e))
 left-of false false t e = absurd t
 
-pub angle-else : (r : Record) → r .kind < 27 → NoneOf plain (r .kind) → namedBy r ≡ Decoded.Angle
+pub angle-else : (k a b c : ℕ) → k < 27 → NoneOf plain k → namedBy k a b c ≡ Decoded.Angle
 unfolding namedBy shapeOf shapes has
-angle-else r h n =
-    angle-named (shapeOf (r .kind)) r
-    (left-of (hasAngle (shapeOf (r .kind))) (has (r .kind) plain) (at angledOrPlain (replicate 27 0) 0 tt (r .kind) h) (none-of plain (r .kind) n))
+angle-else k a b c h n =
+    angle-named (shapeOf k) a b c
+    (left-of (hasAngle (shapeOf k)) (has k plain) (at angledOrPlain (replicate 27 0) 0 tt k h) (none-of plain k n))
 
 past-26 : (k : ℕ) → 25 ≤ k → (k ≡ 25 → ⊥) → (k ≡ 26 → ⊥) → 27 ≤ k
 past-26 k h no25 no26 = omega arith
 
-pub unknown-named : (r : Record) → 27 ≤ r .kind → namedBy r ≡ Decoded.Unknown
+pub unknown-named : (k a b c : ℕ) → 27 ≤ k → namedBy k a b c ≡ Decoded.Unknown
 unfolding namedBy
-unknown-named r h = rw (unknown-from (r .kind) h)
+unknown-named k a b c h = rw (unknown-from k h)
 
-pub unknown-else : (r : Record) → 25 ≤ r .kind → NoneOf plain (r .kind) → namedBy r ≡ Decoded.Unknown
-unknown-else r h n = unknown-named r (past-26 (r .kind) h (n .0 .1) (n .1))
+pub unknown-else : (k a b c : ℕ) → 25 ≤ k → NoneOf plain k → namedBy k a b c ≡ Decoded.Unknown
+unknown-else k a b c h n = unknown-named k a b c (past-26 k h (n .0 .1) (n .1))
+
+-- ------------------------------------------------------------ the gate that a record's kind and words name
+
+abbrev pub named : Record → Decoded
+named r = namedBy (r .kind) (r .first) (r .second) (r .third)

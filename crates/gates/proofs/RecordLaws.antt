@@ -9,13 +9,13 @@ use lib.Dec.{T, eqb, leb, leb→le}
 use lib.ListN.{drop}
 use borrow.Author.Tests.{ne-eqb, leb-true, leb-false}
 use Rattle.gates.proofs.Table.{at, and-left, and-right}
-use Rattle.gates.proofs.KindLaws.{unknown-named}
+use Rattle.gates.proofs.KindLaws.{named, unknown-named}
 use Rattle.gates.specs.declared.Gate.{Gate}
 use Rattle.gates.specs.declared.kinds.Row.{Row}
 use Rattle.gates.specs.declared.records.Record.{Record}
 use Rattle.gates.specs.declared.records.Decoded.{Decoded}
 use Rattle.gates.specs.Kinds.{Shape, on1, on2, on3, onBit, angled, unknown, shapes, shapeOf, wiresIn, rowOf}
-use Rattle.gates.specs.Records.{usedOf, unusedOf, allZero, whenClean, namedBy, gateOf}
+use Rattle.gates.specs.Records.{usedOf, unusedOf, allZero, whenClean, gateOf}
 
 -- ------------------------------------------------------------ the words that a kind uses
 
@@ -68,36 +68,36 @@ unused-by-count r used e low high =
 never : (d : Decoded) (g : Gate) → d ≡ Decoded.Gate g → d ≡ Decoded.Unknown → ⊥
 never d g p q = let z : _≡_ {A = ℕ} 0 1 = cc in omega arith
 
-pub gate-kind : (r : Record) (g : Gate) → namedBy r ≡ Decoded.Gate g → r .kind < 27
+pub gate-kind : (r : Record) (g : Gate) → named r ≡ Decoded.Gate g → r .kind < 27
 gate-kind r g e = go (leb 27 (r .kind)) refl
   where
     go : (b : Bool) → leb 27 (r .kind) ≡ b → r .kind < 27
-    go true h = absurd (never (namedBy r) g e (unknown-named r (leb-true 27 (r .kind) h)))
+    go true h = absurd (never (named r) g e (unknown-named (r .kind) (r .first) (r .second) (r .third) (leb-true 27 (r .kind) h)))
     go false h = leb-false 27 (r .kind) h
 
-gate-by : (r : Record) (d : Decoded) (clean : Bool) → d ≡ namedBy r → allZero (unusedOf r) ≡ clean → whenClean clean d ≡ gateOf r
+gate-by : (r : Record) (d : Decoded) (clean : Bool) → d ≡ named r → allZero (unusedOf r) ≡ clean → whenClean clean d ≡ gateOf r
 unfolding gateOf
 gate-by r d clean e z = rw (e, ← z)
 
-pub gate-clean : (r : Record) (d : Decoded) (g : Gate) → d ≡ namedBy r → d ≡ Decoded.Gate g → allZero (unusedOf r) ≡ true → d ≡ gateOf r
+pub gate-clean : (r : Record) (d : Decoded) (g : Gate) → d ≡ named r → d ≡ Decoded.Gate g → allZero (unusedOf r) ≡ true → d ≡ gateOf r
 gate-clean r d g e q z = q ∙ gate-by r (Decoded.Gate g) true (sym q ∙ e) z
 
-pub gate-unclean : (r : Record) (d : Decoded) (g : Gate) → d ≡ namedBy r → d ≡ Decoded.Gate g → allZero (unusedOf r) ≡ false → Decoded.NotZero ≡ gateOf r
+pub gate-unclean : (r : Record) (d : Decoded) (g : Gate) → d ≡ named r → d ≡ Decoded.Gate g → allZero (unusedOf r) ≡ false → Decoded.NotZero ≡ gateOf r
 gate-unclean r d g e q z = gate-by r (Decoded.Gate g) false (sym q ∙ e) z
 
-pub gate-angle : (r : Record) (d : Decoded) → d ≡ namedBy r → d ≡ Decoded.Angle → Decoded.Angle ≡ gateOf r
+pub gate-angle : (r : Record) (d : Decoded) → d ≡ named r → d ≡ Decoded.Angle → Decoded.Angle ≡ gateOf r
 gate-angle r d e q = gate-by r Decoded.Angle (allZero (unusedOf r)) (sym q ∙ e) refl
 
-pub gate-unknown : (r : Record) (d : Decoded) → d ≡ namedBy r → d ≡ Decoded.Unknown → Decoded.Unknown ≡ gateOf r
+pub gate-unknown : (r : Record) (d : Decoded) → d ≡ named r → d ≡ Decoded.Unknown → Decoded.Unknown ≡ gateOf r
 gate-unknown r d e q = gate-by r Decoded.Unknown (allZero (unusedOf r)) (sym q ∙ e) refl
 
-pub gate-not-zero : (r : Record) (d : Decoded) → d ≡ namedBy r → d ≡ Decoded.NotZero → Decoded.NotZero ≡ gateOf r
+pub gate-not-zero : (r : Record) (d : Decoded) → d ≡ named r → d ≡ Decoded.NotZero → Decoded.NotZero ≡ gateOf r
 gate-not-zero r d e q = gate-by r Decoded.NotZero (allZero (unusedOf r)) (sym q ∙ e) refl
 
 -- ------------------------------------------------------------ what a decoded record's kind is
 
 pub gate-past-26 : (r : Record) → 27 ≤ r .kind → gateOf r ≡ Decoded.Unknown
-gate-past-26 r h = sym (gate-unknown r (namedBy r) refl (unknown-named r h))
+gate-past-26 r h = sym (gate-unknown r (named r) refl (unknown-named (r .kind) (r .first) (r .second) (r .third) h))
 
 pub known-kind : (r : Record) (g : Gate) → gateOf r ≡ Decoded.Gate g → r .kind < 27
 known-kind r g e = go (leb 27 (r .kind)) refl

@@ -8,6 +8,7 @@ use native.Mathlib.Omega.{arith}
 use lib.Dec.{eqb}
 use lib.ListN.{length, getD, take, drop}
 use borrow.Author.Tests.{eqb-true}
+use Rattle.gates.proofs.KindLaws.{named}
 use Rattle.gates.proofs.WordLaws.{word-of-bytes, first-byte, padding-of-head, head-word, word-taken, word-before}
 use Rattle.gates.specs.declared.Wire.{Wire}
 use Rattle.gates.specs.declared.Bit.{Bit}
@@ -139,7 +140,7 @@ used-three : (r : Record) → allZero (unusedOf r) ≡ true → usedOf (r .kind)
     → withWords (r .kind) (r .first) (r .second) (r .third) ≡ r
 used-three r z e = zeroed r (r .second) (r .third) (unused-zero r 3 e z .0) refl refl
 
-named-has : (s : Shape) (r : Record) (g : Gate) → Fit (r .kind) s → allZero (unusedOf r) ≡ true → decodedAs s r ≡ Decoded.Gate g
+named-has : (s : Shape) (r : Record) (g : Gate) → Fit (r .kind) s → allZero (unusedOf r) ≡ true → decodedAs s (r .first) (r .second) (r .third) ≡ Decoded.Gate g
     → Has g r (take (wiresIn s) (words r))
 named-has (on1 f) r g fits z e = let same = used-one r z (fits .0) in let has = fits .1 (wire (r .first)) in ((cc), (cc))
 named-has (on2 f) r g fits z e =
@@ -154,7 +155,7 @@ named-has unknown r g fits z e = ((cc), (cc))
 decoded-has : (r : Record) (g : Gate) → gateOf r ≡ Decoded.Gate g → Has g r (take (wiresIn (shapeOf (r .kind))) (words r))
 unfolding gateOf namedBy
 decoded-has r g e =
-    let clean = clean-gate (allZero (unusedOf r)) (namedBy r) g e in
+    let clean = clean-gate (allZero (unusedOf r)) (named r) g e in
     named-has (shapeOf (r .kind)) r g (fit (r .kind)) (clean .0) (clean .1)
 
 -- ------------------------------------------------------------ gates and records

@@ -41,17 +41,17 @@ unfoldable pub allZero : List ℕ → Bool
 allZero [] = true
 allZero (x ∷ xs) = eqb x 0 && allZero xs
 
-abbrev pub decodedAs : Shape → Record → Decoded
-decodedAs (on1 f) r = Decoded.Gate (f (wire (r .first)))
-decodedAs (on2 f) r = Decoded.Gate (f (wire (r .first)) (wire (r .second)))
-decodedAs (on3 f) r = Decoded.Gate (f (wire (r .first)) (wire (r .second)) (wire (r .third)))
-decodedAs (onBit f) r = Decoded.Gate (f (wire (r .first)) (bit (r .second)))
-decodedAs (angled n) r = Decoded.Angle
-decodedAs unknown r = Decoded.Unknown
+abbrev pub decodedAs : Shape → ℕ → ℕ → ℕ → Decoded
+decodedAs (on1 f) a b c = Decoded.Gate (f (wire a))
+decodedAs (on2 f) a b c = Decoded.Gate (f (wire a) (wire b))
+decodedAs (on3 f) a b c = Decoded.Gate (f (wire a) (wire b) (wire c))
+decodedAs (onBit f) a b c = Decoded.Gate (f (wire a) (bit b))
+decodedAs (angled n) a b c = Decoded.Angle
+decodedAs unknown a b c = Decoded.Unknown
 
 -- The gate that a kind number and three words name; or that the kind carries an angle, or is none.
-unfoldable pub namedBy : Record → Decoded
-namedBy r = decodedAs (shapeOf (r .kind)) r
+unfoldable pub namedBy : ℕ → ℕ → ℕ → ℕ → Decoded
+namedBy kind first second third = decodedAs (shapeOf kind) first second third
 
 -- A gate only where what must be zero is.
 abbrev pub whenClean : Bool → Decoded → Decoded
@@ -62,7 +62,7 @@ whenClean clean Decoded.NotZero = Decoded.NotZero
 
 -- The gate of a record, or why it is none: an angle, an unknown kind, or an unused byte or word that is not zero.
 unfoldable pub gateOf : Record → Decoded
-gateOf r = whenClean (allZero (unusedOf r)) (namedBy r)
+gateOf r = whenClean (allZero (unusedOf r)) (namedBy (r .kind) (r .first) (r .second) (r .third))
 
 -- ------------------------------------------------------------ from a gate to bytes
 

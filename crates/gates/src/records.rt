@@ -56,14 +56,10 @@ pub fn put_record(bytes: &mut [u8], place: Position, r: Record)
     words::put_word(bytes, at + 12, r.third);
 }
 
-// The gate that a kind and three words name.
-fn named_by(r: Record) -> Decoded
-    ensures { λ d. ⌜ d ≡ namedBy r ⌝ }
+// The gate that a kind number and three words name; a measure's second word is its bit.
+fn named_by(kind: u8, a: Wire, b: Wire, c: Wire) -> Decoded
+    ensures { λ d. ⌜ d ≡ namedBy kind (a .0) (b .0) (c .0) ⌝ }
 {
-    let kind = r.kind;
-    let a = Wire(r.first);
-    let b = Wire(r.second);
-    let c = Wire(r.third);
     match kind {
         0 => Decoded::Gate(Gate::X(a)),
         1 => Decoded::Gate(Gate::H(a)),
@@ -92,7 +88,7 @@ fn named_by(r: Record) -> Decoded
         }),
         12 => Decoded::Gate(Gate::Measure {
             qubit: a,
-            cbit: Bit(r.second),
+            cbit: Bit(b.0),
         }),
         13 => Decoded::Gate(Gate::Reset(a)),
         15 => Decoded::Gate(Gate::Y(a)),
@@ -141,7 +137,7 @@ fn words_used(kind: u8) -> u8
 pub fn gate_of(r: Record) -> Decoded
     ensures { λ d. ⌜ d ≡ gateOf r ⌝ }
 {
-    let named = named_by(r);
+    let named = named_by(r.kind, Wire(r.first), Wire(r.second), Wire(r.third));
     match named {
         Decoded::Gate(_) => {
             if unused_are_zero(r) {
@@ -161,48 +157,84 @@ pub fn record_of(g: Gate) -> Record
     ensures { λ r. ⌜ r ≡ recordOf g ⌝ }
 {
     match g {
-        Gate::X(w) => holding(0, w.0, 0, 0),
-        Gate::H(w) => holding(1, w.0, 0, 0),
-        Gate::S(w) => holding(2, w.0, 0, 0),
-        Gate::Sdg(w) => holding(3, w.0, 0, 0),
-        Gate::Z(w) => holding(4, w.0, 0, 0),
-        Gate::T(w) => holding(5, w.0, 0, 0),
-        Gate::Tdg(w) => holding(6, w.0, 0, 0),
-        Gate::Cnot { control, target } => holding(8, control.0, target.0, 0),
-        Gate::Cz { control, target } => holding(9, control.0, target.0, 0),
+        Gate::X(w) => on_one(0, w),
+        Gate::H(w) => on_one(1, w),
+        Gate::S(w) => on_one(2, w),
+        Gate::Sdg(w) => on_one(3, w),
+        Gate::Z(w) => on_one(4, w),
+        Gate::T(w) => on_one(5, w),
+        Gate::Tdg(w) => on_one(6, w),
+        Gate::Cnot { control, target } => on_two(8, control, target),
+        Gate::Cz { control, target } => on_two(9, control, target),
         Gate::Ccx {
             control1,
             control2,
             target,
-        } => holding(10, control1.0, control2.0, target.0),
+        } => on_three(10, control1, control2, target),
         Gate::Ccz {
             control1,
             control2,
             target,
-        } => holding(11, control1.0, control2.0, target.0),
-        Gate::Measure { qubit, cbit } => holding(12, qubit.0, cbit.0, 0),
-        Gate::Reset(w) => holding(13, w.0, 0, 0),
-        Gate::Y(w) => holding(15, w.0, 0, 0),
-        Gate::Sx(w) => holding(16, w.0, 0, 0),
-        Gate::Swap(a, b) => holding(19, a.0, b.0, 0),
-        Gate::Cy { control, target } => holding(20, control.0, target.0, 0),
-        Gate::Ch { control, target } => holding(25, control.0, target.0, 0),
+        } => on_three(11, control1, control2, target),
+        Gate::Measure { qubit, cbit } => with_bit(12, qubit, cbit),
+        Gate::Reset(w) => on_one(13, w),
+        Gate::Y(w) => on_one(15, w),
+        Gate::Sx(w) => on_one(16, w),
+        Gate::Swap(a, b) => on_two(19, a, b),
+        Gate::Cy { control, target } => on_two(20, control, target),
+        Gate::Ch { control, target } => on_two(25, control, target),
         Gate::Cswap {
             control,
             first,
             second,
-        } => holding(26, control.0, first.0, second.0),
+        } => on_three(26, control, first, second),
     }
 }
 
-fn holding(kind: u8, first: u32, second: u32, third: u32) -> Record
-    ensures { λ r. ⌜ r ≡ withWords kind first second third ⌝ }
+fn on_one(kind: u8, a: Wire) -> Record
+    ensures { λ r. ⌜ r ≡ withWords kind (a .0) 0 0 ⌝ }
 {
     Record {
         kind,
         padding: 0,
-        first,
-        second,
-        third,
+        first: a.0,
+        second: 0,
+        third: 0,
+    }
+}
+
+fn on_two(kind: u8, a: Wire, b: Wire) -> Record
+    ensures { λ r. ⌜ r ≡ withWords kind (a .0) (b .0) 0 ⌝ }
+{
+    Record {
+        kind,
+        padding: 0,
+        first: a.0,
+        second: b.0,
+        third: 0,
+    }
+}
+
+fn on_three(kind: u8, a: Wire, b: Wire, c: Wire) -> Record
+    ensures { λ r. ⌜ r ≡ withWords kind (a .0) (b .0) (c .0) ⌝ }
+{
+    Record {
+        kind,
+        padding: 0,
+        first: a.0,
+        second: b.0,
+        third: c.0,
+    }
+}
+
+fn with_bit(kind: u8, a: Wire, bit: Bit) -> Record
+    ensures { λ r. ⌜ r ≡ withWords kind (a .0) (bit .0) 0 ⌝ }
+{
+    Record {
+        kind,
+        padding: 0,
+        first: a.0,
+        second: bit.0,
+        third: 0,
     }
 }
