@@ -7,7 +7,7 @@ use native.Mathlib.Nat.{not-suc-le-zero}
 use native.Mathlib.Omega.{arith}
 use lib.Dec.{T, eqb, leb, leb→le}
 use lib.ListN.{drop}
-use borrow.Author.Tests.{ne-eqb, leb-true, leb-false}
+use borrow.Author.Tests.{ne-eqb}
 use Rattle.gates.proofs.Table.{at, and-left, and-right}
 use Rattle.gates.proofs.KindLaws.{named, unknown-named}
 use Rattle.gates.specs.declared.Gate.{Gate}
@@ -68,12 +68,11 @@ unused-by-count r used e low high =
 never : (d : Decoded) (g : Gate) → d ≡ Decoded.Gate g → d ≡ Decoded.Unknown → ⊥
 never d g p q = let z : _≡_ {A = ℕ} 0 1 = cc in omega arith
 
+below-27 : (kind : ℕ) → (27 ≤ kind → ⊥) → kind < 27
+below-27 kind not-past = omega arith
+
 pub gate-kind : (r : Record) (g : Gate) → named r ≡ Decoded.Gate g → r .kind < 27
-gate-kind r g e = go (leb 27 (r .kind)) refl
-  where
-    go : (b : Bool) → leb 27 (r .kind) ≡ b → r .kind < 27
-    go true h = absurd (never (named r) g e (unknown-named (r .kind) (r .first) (r .second) (r .third) (leb-true 27 (r .kind) h)))
-    go false h = leb-false 27 (r .kind) h
+gate-kind r g e = below-27 (r .kind) (λ h. never (named r) g e (unknown-named (r .kind) (r .first) (r .second) (r .third) h))
 
 gate-by : (r : Record) (d : Decoded) (clean : Bool) → d ≡ named r → allZero (unusedOf r) ≡ clean → whenClean clean d ≡ gateOf r
 unfolding gateOf
@@ -100,11 +99,7 @@ pub gate-past-26 : (r : Record) → 27 ≤ r .kind → gateOf r ≡ Decoded.Unkn
 gate-past-26 r h = sym (gate-unknown r (named r) refl (unknown-named (r .kind) (r .first) (r .second) (r .third) h))
 
 pub known-kind : (r : Record) (g : Gate) → gateOf r ≡ Decoded.Gate g → r .kind < 27
-known-kind r g e = go (leb 27 (r .kind)) refl
-  where
-    go : (b : Bool) → leb 27 (r .kind) ≡ b → r .kind < 27
-    go true h = absurd (never (gateOf r) g e (gate-past-26 r (leb-true 27 (r .kind) h)))
-    go false h = leb-false 27 (r .kind) h
+known-kind r g e = below-27 (r .kind) (λ h. never (gateOf r) g e (gate-past-26 r h))
 
 abbrev pub isKnown : Shape → Bool
 isKnown (on1 f) = true

@@ -38,7 +38,7 @@ on-operands f r row t e h = sym (h ∙ ap (λ (k : Row). f (take (k .operands) (
 
 -- ------------------------------------------------------------ one list of tests behind another
 
-accepted≢refused : (t : Tested) (number : ℕ) (place : Position) → t ≡ Tested.Accepted → t ≡ Tested.Refused number place → ⊥
+pub accepted≢refused : (t : Tested) (number : ℕ) (place : Position) → t ≡ Tested.Accepted → t ≡ Tested.Refused number place → ⊥
 accepted≢refused t number place p q = let z : _≡_ {A = ℕ} 0 1 = cc in omega arith
 
 first-fails : (t : Test) (ts : List Test) → t .fails ≡ true → firstFailing (t ∷ ts) ≡ Tested.Refused (t .number) (position (t .place))

@@ -4,41 +4,32 @@ use mathlib.Core.Bool.{Bool, true, false, _&&_, true≢false}
 use mathlib.Core.List.{List, [], _∷_}
 use Prim.Native.Nat.{ℕ, zero, suc, _+_, _<_}
 use native.Mathlib.Nat.{le-of-suc-le-suc, not-suc-le-zero, add-zero, add-suc, suc-add, zero-add}
-use lib.Dec.{T, eqb, leb}
+use lib.Dec.{eqb, leb}
 use lib.ListN.{length}
-use borrow.Author.Tests.{leb-false, eqb-true, not-false}
+use borrow.Author.Tests.{leb-false, eqb-true}
 use Rattle.gates.specs.declared.Bit.{Bit}
 use Rattle.gates.specs.declared.Wire.{Wire}
 use Rattle.gates.specs.declared.Gate.{Gate}
 use Rattle.gates.specs.declared.Gate.the-variants.{Measure}
 use Rattle.gates.specs.declared.records.Record.{Record}
 use Rattle.gates.specs.declared.records.Decoded.{Decoded}
-use Rattle.gates.specs.Kinds.{Shape, on1, on2, on3, onBit, angled, unknown, shapeOf, hasAngle}
-use Rattle.gates.specs.Gates.{wire, bit, has, twice, Valid}
-use Rattle.gates.specs.Records.{recordAt, unusedOf, allZero, namedBy, gateOf, recordOf}
-use Rattle.gates.proofs.RecordLaws.{isKnown, known-below-27}
+use Rattle.gates.specs.Gates.{has, twice, Valid}
+use Rattle.gates.specs.Records.{recordAt, gateOf, recordOf}
 use Rattle.gates.proofs.RoundTrip.{encode-decode, wires-words}
 use Rattle.intake.specs.declared.Tested.{Tested}
 use Rattle.intake.specs.Tests.{firstFailing, recordsIn, operandWords, anyOver, operandTests, recordTests, recordsTests, listTests}
-use Rattle.intake.proofs.TestLaws.{first-passes, both-accepted, neither}
+use Rattle.intake.proofs.TestLaws.{accepted≢refused, first-passes, both-accepted, neither}
+use Rattle.intake.proofs.RecordLaws.{byDecoded, tested}
 
 -- ------------------------------------------------------------ one record
 
-module _ (r : Record) where
-  by-shape : (s : Shape) → shapeOf (r .kind) ≡ s → T (isKnown s) → hasAngle s ≡ false → allZero (unusedOf r) ≡ true
-      → (g : Gate) × (gateOf r ≡ Decoded.Gate g)
-  unfolding gateOf namedBy
-  by-shape (on1 f) e k plain clean = (f (wire (r .first)), rw (e, clean))
-  by-shape (on2 f) e k plain clean = (f (wire (r .first)) (wire (r .second)), rw (e, clean))
-  by-shape (on3 f) e k plain clean = (f (wire (r .first)) (wire (r .second)) (wire (r .third)), rw (e, clean))
-  by-shape (onBit f) e k plain clean = (f (wire (r .first)) (bit (r .second)), rw (e, clean))
-  by-shape (angled n) e k plain clean = absurd (true≢false plain)
-  by-shape unknown e k plain clean = absurd k
-
-  pub some-gate : hasAngle (shapeOf (r .kind)) ≡ false → leb 27 (r .kind) ≡ false → allZero (unusedOf r) ≡ true
-      → (g : Gate) × (gateOf r ≡ Decoded.Gate g)
-  some-gate plain low clean =
-      by-shape (shapeOf (r .kind)) refl (known-below-27 (r .kind) (leb-false 27 (r .kind) low)) plain clean
+-- what is accepted was decoded to a gate: the other cases are refused
+pub some-gate : (n bits place : ℕ) (r : Record) (d : Decoded) → byDecoded n bits place r d ≡ Tested.Accepted
+    → (g : Gate) × (d ≡ Decoded.Gate g)
+some-gate n bits place r (Decoded.Gate g) e = (g, refl)
+some-gate n bits place r Decoded.Angle e = absurd (accepted≢refused _ _ _ e refl)
+some-gate n bits place r Decoded.Unknown e = absurd (accepted≢refused _ _ _ e refl)
+some-gate n bits place r Decoded.NotZero e = absurd (accepted≢refused _ _ _ e refl)
 
 -- a wire that is among those of which none is at or over n
 under : (n w : ℕ) (ws : List ℕ) → anyOver n ws ≡ false → has w ws ≡ true → w < n
@@ -70,7 +61,7 @@ valid-record n bits place r e =
     let t₁₀ = first-passes _ _ (t₉ .1) in
     let t₁₁ = first-passes _ _ (t₁₀ .1) in
     let t₁₂ = first-passes _ _ (t₁₁ .1) in
-    let found = some-gate r (t₇ .0) (t₈ .0) (not-false _ (t₉ .0)) in
+    let found = some-gate n bits place r (gateOf r) (tested n bits place r ∙ e) in
     let g = found .0 in
     let wires = wires-words r g (found .1) in (
       g,
