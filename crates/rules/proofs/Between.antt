@@ -1,0 +1,162 @@
+-- Gates that stand between the two h of a step: an x, or those of a run.
+use mathlib.Core.Path.{_≡_, refl, sym, _∙_, ap, ap₂}
+use mathlib.Core.Bool.{Bool, true, false, not, cond, _||_, _&&_}
+use mathlib.Core.List.{List, [], _∷_}
+use mathlib.Core.Option.{Option, some, none}
+use Prim.Native.Nat.{ℕ}
+use native.Mathlib.Omega.{arith}
+use lib.Dec.{eqb}
+use borrow.Author.Tests.{eqb-true}
+use Rattle.gates.specs.declared.Wire.{Wire}
+use Rattle.gates.specs.declared.Gate.{Gate}
+use Rattle.gates.specs.declared.Gate.the-variants.{X, H, S, Sdg, Z, T, Tdg, Cnot, Cz, Ccx, Ccz, Measure, Reset, Y, Sx, Swap, Cy, Ch, Cswap}
+use Rattle.gates.specs.Gates.{wire, wiresOf, has, touches}
+use Rattle.gates.specs.Records.{recordOf, kindOf, isH}
+use Rattle.rules.specs.Runs.{Rewrite, isHOn, worth, plus, sumOf, bySum, loneX, rewriteOf}
+use Rattle.rules.specs.Steps.{Cell, firstOf, all, track}
+use Rattle.rules.specs.Sweeps.{inRun}
+use Rattle.rules.proofs.EqualLaws.{and-left, and-right}
+
+-- ------------------------------------------------------------ an h on a wire
+
+pub is-h : (g : Gate) → isH g ≡ true → g ≡ H (wire (firstOf (wiresOf g)))
+unfolding recordOf wiresOf
+is-h (X w) h = cc
+is-h (H w) h = refl
+is-h (S w) h = cc
+is-h (Sdg w) h = cc
+is-h (Z w) h = cc
+is-h (T w) h = cc
+is-h (Tdg w) h = cc
+is-h (Cnot c t) h = cc
+is-h (Cz c t) h = cc
+is-h (Ccx c d t) h = cc
+is-h (Ccz c d t) h = cc
+is-h (Measure w b) h = cc
+is-h (Reset w) h = cc
+is-h (Y w) h = cc
+is-h (Sx w) h = cc
+is-h (Swap a b) h = cc
+is-h (Cy c t) h = cc
+is-h (Ch c t) h = cc
+is-h (Cswap c a b) h = cc
+
+-- The wire that a step of kind 3 takes from its first h.
+pub h-wire : (w : ℕ) (g : Gate) → isHOn w g ≡ true → firstOf (wiresOf g) ≡ w
+unfolding wiresOf has
+h-wire w g h =
+    sym (eqb-true w _ (or-false _ (ap (touches w) (sym (is-h g (and-left (isH g) _ h))) ∙ and-right (isH g) _ h)))
+  where
+    or-false : (b : Bool) → b || false ≡ true → b ≡ true
+    or-false true h = refl
+    or-false false h = h
+
+-- ------------------------------------------------------------ single gates
+
+abbrev pub inside : Gate → Bool
+inside g = eqb (kindOf g) 0 || inRun (worth g)
+
+-- A measure or a reset.
+abbrev pub isReading : Gate → Bool
+isReading g = has (kindOf g) (12 ∷ 13 ∷ [])
+
+pub inside-no-h : (g : Gate) → inside g ≡ true → isH g ≡ false
+unfolding recordOf worth
+inside-no-h (X w) h = refl
+inside-no-h (H w) h = sym h
+inside-no-h (S w) h = refl
+inside-no-h (Sdg w) h = refl
+inside-no-h (Z w) h = refl
+inside-no-h (T w) h = refl
+inside-no-h (Tdg w) h = refl
+inside-no-h (Cnot c t) h = refl
+inside-no-h (Cz c t) h = refl
+inside-no-h (Ccx c d t) h = refl
+inside-no-h (Ccz c d t) h = refl
+inside-no-h (Measure w b) h = refl
+inside-no-h (Reset w) h = refl
+inside-no-h (Y w) h = refl
+inside-no-h (Sx w) h = refl
+inside-no-h (Swap a b) h = refl
+inside-no-h (Cy c t) h = refl
+inside-no-h (Ch c t) h = refl
+inside-no-h (Cswap c a b) h = refl
+
+pub inside-no-reading : (g : Gate) → inside g ≡ true → isReading g ≡ false
+unfolding recordOf worth has
+inside-no-reading (X w) h = refl
+inside-no-reading (H w) h = refl
+inside-no-reading (S w) h = refl
+inside-no-reading (Sdg w) h = refl
+inside-no-reading (Z w) h = refl
+inside-no-reading (T w) h = refl
+inside-no-reading (Tdg w) h = refl
+inside-no-reading (Cnot c t) h = refl
+inside-no-reading (Cz c t) h = refl
+inside-no-reading (Ccx c d t) h = refl
+inside-no-reading (Ccz c d t) h = refl
+inside-no-reading (Measure w b) h = sym h
+inside-no-reading (Reset w) h = sym h
+inside-no-reading (Y w) h = refl
+inside-no-reading (Sx w) h = refl
+inside-no-reading (Swap a b) h = refl
+inside-no-reading (Cy c t) h = refl
+inside-no-reading (Ch c t) h = refl
+inside-no-reading (Cswap c a b) h = refl
+
+-- ------------------------------------------------------------ rows of gates
+
+abbrev pub every : (Gate → Bool) → List Gate → Bool
+every p [] = true
+every p (g ∷ l) = p g && every p l
+
+or-true : (a b : Bool) → b ≡ true → a || b ≡ true
+or-true true b h = refl
+or-true false b h = h
+
+abbrev Inside : List Gate → Option ℕ → Type 0
+Inside l none = Unit {0}
+Inside l (some k) = every inside l ≡ true
+
+sum-inside : (l : List Gate) → Inside l (sumOf l)
+unfolding sumOf
+sum-inside [] = refl
+sum-inside (g ∷ l) = go (worth g) refl (sumOf l) (sum-inside l)
+  where
+    go : (a : Option ℕ) → worth g ≡ a → (b : Option ℕ) → Inside l b → Inside (g ∷ l) (plus a b)
+    go none p b h = tt
+    go (some i) p none h = tt
+    go (some i) p (some j) h = ap₂ _&&_ (or-true (eqb (kindOf g) 0) (inRun (worth g)) (ap inRun p)) h
+
+lone-inside : (l : List Gate) → loneX l ≡ true → every inside l ≡ true
+lone-inside [] h = refl
+lone-inside (g ∷ []) h = ap (λ b. (b || inRun (worth g)) && true) h
+lone-inside (g ∷ k ∷ l) h = cc
+
+none-not-rewrite : (r : Rewrite) → _≡_ {A = Option Rewrite} none (some r) → ⊥
+none-not-rewrite r q = let z : _≡_ {A = ℕ} 0 1 = cc in omega arith
+
+-- What a step of kind 3 rewrites is an x or a run.
+pub between-inside : (w : Wire) (l : List Gate) (r : Rewrite) → rewriteOf w l ≡ some r → every inside l ≡ true
+unfolding rewriteOf
+between-inside w l r h = go (loneX l) refl (sumOf l) (sum-inside l) h
+  where
+    go : (b : Bool) → loneX l ≡ b → (o : Option ℕ) → Inside l o →
+        cond b (some (record { ends = none; first = some (Z w) })) (bySum w o) ≡ some r → every inside l ≡ true
+    go true q o i p = lone-inside l q
+    go false q none i p = absurd (none-not-rewrite r p)
+    go false q (some k) i p = i
+
+module _ {A : Type 0} where
+  -- What holds of a wire's gates holds of each cell on it.
+  pub track-every : (p : Gate → Bool) (w : ℕ) (m : List (Cell A)) → every p (track w m) ≡ true →
+      all (λ g. not (touches w g) || p g) m ≡ true
+  unfolding track
+  track-every p w [] h = refl
+  track-every p w (e ∷ m) h = go (touches w (e .gate)) h (track-every p w m)
+    where
+      go : (t : Bool) → every p (cond t (e .gate ∷ track w m) (track w m)) ≡ true →
+          (every p (track w m) ≡ true → all (λ g. not (touches w g) || p g) m ≡ true) →
+          (not t || p (e .gate)) && all (λ g. not (touches w g) || p g) m ≡ true
+      go true q ih = ap₂ _&&_ (and-left (p (e .gate)) _ q) (ih (and-right (p (e .gate)) _ q))
+      go false q ih = ih q

@@ -1,0 +1,19 @@
+-- The laws of the rules.
+pub mod Small
+pub mod EqualLaws
+pub mod Names
+pub mod Cuts
+pub mod Walks
+pub mod Between
+pub mod NextH
+pub mod HadamardForm
+pub mod Replays
+pub mod Acts
+pub mod Falls
+pub mod Ends
+pub mod Looks
+pub mod Carried
+pub mod Kept
+pub mod Readings
+pub mod Stuck
+pub mod JournalBytes

@@ -1,0 +1,51 @@
+-- Sweeps one after another, a sweep again until nothing changes, and the loop. Document 01, "Loop".
+use mathlib.Core.Bool.{cond}
+use mathlib.Core.List.{List, [], _∷_, _++_}
+use Prim.Native.Nat.{ℕ, zero, suc, _+_}
+use lib.ListN.{length}
+use Rattle.gates.specs.Records.{isH}
+use Rattle.rules.specs.Steps.{Cell, Step}
+use Rattle.rules.specs.Sweeps.{Done, Sweep, idle, pairSweep, hadamardsFrom, commutingSweep}
+
+module _ {A : Type 0} where
+  abbrev pub and : Done A → Done A → Done A
+  and c d = record { list = d .list; steps = c .steps ++ d .steps; looks = c .looks + d .looks }
+
+  abbrev pub followed : Sweep A → Sweep A → Sweep A
+  followed f g l = let c = f l in and c (g c.list)
+
+  abbrev pub againIf : Sweep A → Done A → List Step → Done A
+  againIf f d [] = d
+  againIf f d (s ∷ ss) = and d (f d.list)
+
+  -- "Sweep again until nothing changes", so often at most.
+  unfoldable pub repeat : ℕ → Sweep A → Sweep A
+  repeat zero f l = idle l
+  repeat (suc n) f l = let d = f l in againIf (repeat n f) d d.steps
+
+  -- "the h gates"
+  unfoldable pub hCount : List (Cell A) → ℕ
+  hCount [] = 0
+  hCount (e ∷ l) = cond (isH (e .gate)) 1 0 + hCount l
+
+  -- Every step makes it less.
+  abbrev pub size : List (Cell A) → ℕ
+  size l = length l + hCount l
+
+  -- Until nothing changes: no sweep changes more often than a list's size.
+  unfoldable pub repeated : Sweep A → Sweep A
+  repeated f l = repeat (suc (size l)) f l
+
+  -- "For each wire upwards … walk that wire's gates."
+  unfoldable pub hadamardSweep : ℕ → Sweep A
+  hadamardSweep zero l = idle l
+  hadamardSweep (suc w) l = followed (hadamardSweep w) (λ m. hadamardsFrom (length m) w 0 m) l
+
+module _ {A : Type 0} (kinds : List ℕ) where
+  -- "then Hadamard, commuting, pair"
+  unfoldable pub round : ℕ → Sweep A
+  round n = followed (repeated (hadamardSweep n)) (followed (repeated commutingSweep) (pairSweep kinds))
+
+  -- "pair sweep; then Hadamard, commuting, pair, until a round in which none fires", on n wires
+  unfoldable pub pass : ℕ → Sweep A
+  pass n = followed (pairSweep kinds) (repeated (round n))
