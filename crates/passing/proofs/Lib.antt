@@ -1,0 +1,2 @@
+-- The laws of passing.
+pub mod PassingLaws
