@@ -26,7 +26,7 @@ and-under false b c d e = refl
 -- ------------------------------------------------------------ the order that a kind asks for
 
 pub ordered-ccz : (kind : ℕ) (ws : List ℕ) → kind ≡ 11 → sorted ws ≡ ordered kind ws
-unfolding ordered
+unfolding ordered has
 ordered-ccz kind ws e = simp (eq-eqb kind 11 e)
 
 module _ (kind a b c : ℕ) (not-ccz : kind ≡ 11 → ⊥) where

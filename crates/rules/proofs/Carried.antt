@@ -14,8 +14,8 @@ use Rattle.rules.specs.Runs.{Rewrite, isHOn, rewriteOf}
 use Rattle.rules.specs.MayPass.{mayPass}
 use Rattle.rules.specs.Steps.{Cell, Step, Cut, onto, firstOf, all, track, offWire, put, putFirst, change1, change2, change3, change, cutAt, act}
 use Rattle.rules.specs.Journal.{Replayed, replayed, refusedAt, replayFrom}
-use Rattle.rules.specs.Sweeps.{Done, Sweep, Walk, reached, blocked, short, idle, stay, fire, look, cut, pairsFrom, pairSweep, walk, room, tracks, walkPast, commutingFrom, commutingSweep}
-use Rattle.rules.specs.Loop.{and, followed, againIf, repeat, hCount, size, repeated, hadamardSweep, round, pass}
+use Rattle.rules.specs.Sweeps.{Done, Sweep, Walk, reached, blocked, short, idle, stay, fire, walked, cut, pairsFrom, pairSweep, walk, room, tracks, walkPast, commutingFrom, commutingSweep, and, followed, hadamardSweep}
+use Rattle.rules.specs.Loop.{againIf, repeat, hCount, size, repeated, round, pass}
 use Rattle.rules.proofs.Names.{if, if-h, rewritten, joined, to-last, to-first, then, pair-if, pair-with, com-walk, com-with, com-open}
 use Rattle.rules.proofs.NextH.{had-new, had-close, had-open, nextHFrom, nextHSweep}
 use Rattle.rules.proofs.HadamardForm.{hadamard-next-h}
@@ -217,6 +217,11 @@ module _ {A B : Type 0} (φ : A → B) where
   unfolding walkPast
   walk-re p m = ap (λ ts. walk (room ts) p ts) (tracks-re (canonical p) m)
 
+  walked-re : (w : Walk) (goes stays : Done A) → walked w (re-done goes) (re-done stays) ≡ re-done (walked w goes stays)
+  walked-re (reached n) goes stays = refl
+  walked-re (blocked n) goes stays = refl
+  walked-re (short n) goes stays = refl
+
   commuting-from-re : (n i : ℕ) (l : List (Cell A)) → commutingFrom n i (res l) ≡ re-done (commutingFrom n i l)
   unfolding commutingFrom
   commuting-from-re zero i l = refl
@@ -233,10 +238,9 @@ module _ {A B : Type 0} (φ : A → B) where
           com-walk (commutingFrom n) i (re e) (res l)
           (record { before = res c.before; here = re c.here; after = res c.after }) w ≡ re-done
           (com-walk (commutingFrom n) i e l c w)
-      at-walk c (reached k) h = λ x. look k
-          (fire 2 i (suc i + res-length c.before x) ((ap (commutingFrom n i) (res-append c.before c.after) ∙ h i (c .before ++ c .after)) x))
-      at-walk c (blocked k) h = ap (look k) (stays h)
-      at-walk c (short k) h = ap (look k) (stays h)
+      at-walk c w h = (λ x. walked w (fire 2 i (suc i + res-length c.before x)
+          ((ap (commutingFrom n i) (res-append c.before c.after) ∙ h i (c .before ++ c .after)) x)) (stays h x))
+          ∙ walked-re w _ _
 
       at-cut : (o : Option (Cut A)) → Ih →
           com-with (commutingFrom n) i (re e) (res l) (re-cut o) ≡ re-done (com-with (commutingFrom n) i e l o)

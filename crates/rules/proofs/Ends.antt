@@ -6,8 +6,8 @@ use native.Mathlib.Omega.{arith}
 use lib.ListN.{length}
 use Rattle.rules.specs.Steps.{Cell, Step}
 use Rattle.rules.specs.Journal.{replayFrom}
-use Rattle.rules.specs.Sweeps.{Sweep, pairSweep, commutingSweep}
-use Rattle.rules.specs.Loop.{followed, againIf, repeat, size, repeated, hadamardSweep, round, pass}
+use Rattle.rules.specs.Sweeps.{Sweep, pairSweep, commutingSweep, followed, hadamardSweep}
+use Rattle.rules.specs.Loop.{againIf, repeat, size, repeated, round, pass}
 use Rattle.rules.proofs.Replays.{Leads, Replays, replayed-same, repeated-replays, hadamard-replays, commuting-replays, round-replays}
 use Rattle.rules.proofs.Falls.{steps-lower}
 

@@ -15,8 +15,7 @@ use Rattle.gates.specs.Gates.{wire, touches}
 use Rattle.gates.specs.Records.{kindOf, isH}
 use Rattle.rules.specs.Runs.{isHOn, isXOn, worth, plus, sumOf, rewrite, bySum, loneX, rewriteOf}
 use Rattle.rules.specs.Steps.{Cell, Cut, andThen, try, when, all, track, onto, change3}
-use Rattle.rules.specs.Sweeps.{Done, idle, stay, fire, cut, inRun, endsRun, xThenH, closed, unclosed, opened, hadamardsFrom}
-use Rattle.rules.specs.Loop.{and, hadamardSweep}
+use Rattle.rules.specs.Sweeps.{Done, idle, stay, fire, cut, inRun, endsRun, xThenH, closed, unclosed, opened, hadamardsFrom, and, hadamardSweep}
 use Rattle.rules.proofs.Names.{kept, rewritten}
 use Rattle.rules.proofs.EqualLaws.{and-left, and-right}
 use Rattle.rules.proofs.Cuts.{all-append, all-then, Parts, cut-is, cut-here}

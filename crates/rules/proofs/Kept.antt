@@ -17,8 +17,8 @@ use Rattle.rules.specs.Runs.{Rewrite, isHOn, sumOf, byEighths, bySum, lo
 use Rattle.rules.specs.MayPass.{mayPass}
 use Rattle.rules.specs.Steps.{Cell, Step, firstOf, all, track, offWire, put, putFirst, change1, change2, change3, change, act}
 use Rattle.rules.specs.Journal.{replayed, replay}
-use Rattle.rules.specs.Sweeps.{Sweep, pairSweep, commutingSweep}
-use Rattle.rules.specs.Loop.{hadamardSweep, pass}
+use Rattle.rules.specs.Sweeps.{Sweep, pairSweep, commutingSweep, hadamardSweep}
+use Rattle.rules.specs.Loop.{pass}
 use Rattle.rules.proofs.Names.{if, rewritten}
 use Rattle.rules.proofs.EqualLaws.{and-left}
 use Rattle.rules.proofs.Between.{is-h}

@@ -7,16 +7,16 @@ use Prim.Native.Nat.{ℕ, zero, suc, _+_, _*_, _^_, _≤_, _<_}
 use native.Mathlib.Omega.{arith}
 use native.Mathlib.Nat as NatL
 use lib.ListN.{length, length-append, take, drop, take-append-drop}
-use lib.Dec.{eqb, leb}
+use lib.Dec.{leb}
 use Rattle.gates.specs.declared.Gate.{Gate}
 use Rattle.gates.specs.declared.Gate.the-variants.{X, H, S, Sdg, Z, T, Tdg, Cnot, Cz, Ccx, Ccz, Measure, Reset, Y, Sx, Swap, Cy, Ch, Cswap}
 use Rattle.gates.specs.Gates.{wiresOf, has, shares, touches}
 use Rattle.gates.specs.Records.{kindOf, isH}
-use Rattle.rules.specs.Equal.{inserted, sorted, ordered, canonical, equal, cancels, isPair}
+use Rattle.rules.specs.Equal.{inserted, sorted, anyOrder, twoInAnyOrder, ordered, canonical, equal, cancels, isPair}
 use Rattle.rules.specs.Runs.{isHOn}
 use Rattle.rules.specs.Steps.{Cell, Step, Cut, track, change3}
-use Rattle.rules.specs.Sweeps.{Done, Sweep, Walk, reached, blocked, short, cut, pairsFrom, pairSweep, room, tracks, walkPast, commutingFrom, commutingSweep}
-use Rattle.rules.specs.Loop.{followed, againIf, repeat, hCount, size, repeated, hadamardSweep, round, pass}
+use Rattle.rules.specs.Sweeps.{Done, Sweep, Walk, reached, blocked, short, cut, pairsFrom, pairSweep, room, tracks, walkPast, commutingFrom, commutingSweep, followed, hadamardSweep}
+use Rattle.rules.specs.Loop.{againIf, repeat, hCount, size, repeated, round, pass}
 use Rattle.rules.proofs.Names.{pair-if, pair-with, com-walk, com-with, com-open}
 use Rattle.rules.proofs.Cuts.{Parts, cut-is}
 use Rattle.rules.proofs.Walks.{Outcome, walk-past-is}
@@ -82,7 +82,7 @@ few-wires (Cswap c a b) = omega arith
 
 canonical-few : (g : Gate) → length (canonical g) ≤ 3
 unfolding canonical ordered
-canonical-few g = go (eqb (kindOf g) 11) (has (kindOf g) (9 ∷ 10 ∷ []))
+canonical-few g = go (has (kindOf g) anyOrder) (has (kindOf g) twoInAnyOrder)
   where
     l : List ℕ
     l = wiresOf g

@@ -6,8 +6,7 @@ use Prim.Native.Nat.{ℕ, zero, suc, _+_}
 use lib.ListN.{length}
 use Rattle.rules.specs.Runs.{isHOn}
 use Rattle.rules.specs.Steps.{Cell, Cut, try, when, change3}
-use Rattle.rules.specs.Sweeps.{Done, Sweep, idle, stay, fire, cut}
-use Rattle.rules.specs.Loop.{followed}
+use Rattle.rules.specs.Sweeps.{Done, Sweep, idle, stay, fire, cut, followed}
 use Rattle.rules.proofs.Names.{kept}
 
 module _ {A : Type 0} where

@@ -13,8 +13,8 @@ use Rattle.rules.specs.Runs.{isHOn}
 use Rattle.rules.specs.MayPass.{mayPass}
 use Rattle.rules.specs.Steps.{Cell, Step, step, Cut, all, change3, change, cutAt, act}
 use Rattle.rules.specs.Journal.{Replayed, replayed, refusedAt, replayFrom, replay}
-use Rattle.rules.specs.Sweeps.{Done, Sweep, Walk, reached, blocked, short, fire, cut, pairsFrom, pairSweep, walkPast, commutingFrom, commutingSweep}
-use Rattle.rules.specs.Loop.{followed, againIf, repeat, size, repeated, hadamardSweep, round, pass}
+use Rattle.rules.specs.Sweeps.{Done, Sweep, Walk, reached, blocked, short, fire, cut, pairsFrom, pairSweep, walkPast, commutingFrom, commutingSweep, followed, hadamardSweep}
+use Rattle.rules.specs.Loop.{againIf, repeat, size, repeated, round, pass}
 use Rattle.rules.proofs.Names.{if, if-h, joined, to-last, to-first, then, pair-if, pair-with, com-walk, com-with, com-open}
 use Rattle.rules.proofs.Cuts.{Parts, cut-is, cut-at-is, all-reverse, reverse-parts}
 use Rattle.rules.proofs.Walks.{Outcome, walk-past-is}

@@ -10,8 +10,8 @@ use Rattle.rules.specs.Equal.{inserted, sorted, ordered, canonical, same
 use Rattle.rules.specs.Runs.{worth, sumOf, byEighths, rewriteOf}
 use Rattle.rules.specs.MayPass.{classOf, past}
 use Rattle.rules.specs.Steps.{Cell, track, offWire, putFirst, change}
-use Rattle.rules.specs.Sweeps.{cut, pairsFrom, pairSweep, xThenH, hadamardsFrom, walk, room, tracks, walkPast, commutingFrom, commutingSweep}
-use Rattle.rules.specs.Loop.{repeat, hCount, repeated, hadamardSweep, round, pass}
+use Rattle.rules.specs.Sweeps.{cut, pairsFrom, pairSweep, xThenH, hadamardsFrom, walk, room, tracks, walkPast, commutingFrom, commutingSweep, hadamardSweep}
+use Rattle.rules.specs.Loop.{repeat, hCount, repeated, round, pass}
 
 pub record Answer : Type 0 where
   pub list : List Gate

@@ -15,8 +15,8 @@ use Rattle.rules.specs.Equal.{equal, cancels, isPair}
 use Rattle.rules.specs.Runs.{Rewrite, isHOn, rewriteOf}
 use Rattle.rules.specs.MayPass.{mayPass}
 use Rattle.rules.specs.Steps.{Cell, Step, Cut, onto, firstOf, all, track, change1, change2, change3, change, act}
-use Rattle.rules.specs.Sweeps.{Done, Walk, reached, blocked, short, cut, pairsFrom, pairSweep, walkPast, commutingFrom, commutingSweep}
-use Rattle.rules.specs.Loop.{hadamardSweep, pass}
+use Rattle.rules.specs.Sweeps.{Done, Walk, reached, blocked, short, cut, pairsFrom, pairSweep, walkPast, commutingFrom, commutingSweep, hadamardSweep}
+use Rattle.rules.specs.Loop.{pass}
 use Rattle.rules.proofs.Names.{rewritten, pair-if, pair-with, com-walk, com-with, com-open}
 use Rattle.rules.proofs.EqualLaws.{and-left, and-right, meets-itself, equal-share, cancels-equal}
 use Rattle.rules.proofs.Cuts.{all-then, all-reverse, cut-here}

@@ -1,19 +1,13 @@
--- Sweeps one after another, a sweep again until nothing changes, and the loop. Document 01, "Loop".
+-- A sweep again until nothing changes, and the loop. Document 01, "Loop".
 use mathlib.Core.Bool.{cond}
-use mathlib.Core.List.{List, [], _∷_, _++_}
+use mathlib.Core.List.{List, [], _∷_}
 use Prim.Native.Nat.{ℕ, zero, suc, _+_}
 use lib.ListN.{length}
 use Rattle.gates.specs.Records.{isH}
 use Rattle.rules.specs.Steps.{Cell, Step}
-use Rattle.rules.specs.Sweeps.{Done, Sweep, idle, pairSweep, hadamardsFrom, commutingSweep}
+use Rattle.rules.specs.Sweeps.{Done, Sweep, idle, and, followed, pairSweep, hadamardSweep, commutingSweep}
 
 module _ {A : Type 0} where
-  abbrev pub and : Done A → Done A → Done A
-  and c d = record { list = d .list; steps = c .steps ++ d .steps; looks = c .looks + d .looks }
-
-  abbrev pub followed : Sweep A → Sweep A → Sweep A
-  followed f g l = let c = f l in and c (g c.list)
-
   abbrev pub againIf : Sweep A → Done A → List Step → Done A
   againIf f d [] = d
   againIf f d (s ∷ ss) = and d (f d.list)
@@ -35,11 +29,6 @@ module _ {A : Type 0} where
   -- Until nothing changes: no sweep changes more often than a list's size.
   unfoldable pub repeated : Sweep A → Sweep A
   repeated f l = repeat (suc (size l)) f l
-
-  -- "For each wire upwards … walk that wire's gates."
-  unfoldable pub hadamardSweep : ℕ → Sweep A
-  hadamardSweep zero l = idle l
-  hadamardSweep (suc w) l = followed (hadamardSweep w) (λ m. hadamardsFrom (length m) w 0 m) l
 
 module _ {A : Type 0} (kinds : List ℕ) where
   -- "then Hadamard, commuting, pair"

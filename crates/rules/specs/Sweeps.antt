@@ -35,6 +35,13 @@ module _ {A : Type 0} where
   abbrev pub look : ℕ → Done A → Done A
   look n d = record { list = d .list; steps = d .steps; looks = n + d.looks }
 
+  -- One after another.
+  abbrev pub and : Done A → Done A → Done A
+  and c d = record { list = d .list; steps = c .steps ++ d .steps; looks = c .looks + d .looks }
+
+  abbrev pub followed : Sweep A → Sweep A → Sweep A
+  followed f g l = let c = f l in and c (g c.list)
+
   -- The list parted at its first gate that meets a test.
   unfoldable pub cut : (Gate → Bool) → List (Cell A) → Option (Cut A)
   cut p [] = none
@@ -99,6 +106,11 @@ module _ {A : Type 0} where
   hadamardsFrom (suc n) w i [] = idle []
   hadamardsFrom (suc n) w i (e ∷ l) =
       cond (isHOn w (e .gate)) (opened (hadamardsFrom n w) w i e l) (stay (e ∷ []) (hadamardsFrom n w (suc i) l))
+
+  -- "For each wire upwards … walk that wire's gates."
+  unfoldable pub hadamardSweep : ℕ → Sweep A
+  hadamardSweep zero l = idle l
+  hadamardSweep (suc w) l = followed (hadamardSweep w) (λ m. hadamardsFrom (length m) w 0 m) l
 
 -- ------------------------------------------------------------ commuting sweep
 
