@@ -3,3 +3,4 @@ pub mod EqualCode
 pub mod VariantLaws
 pub mod RunLaws
 pub mod PairLaws
+pub mod AnswerLaws
