@@ -3,7 +3,7 @@ use mathlib.Core.Path.{_≡_, refl, sym, _∙_, ap, ap₂}
 use mathlib.Core.Bool.{Bool, true, false, not, cond, _||_, _&&_}
 use mathlib.Core.List.{List, [], _∷_}
 use mathlib.Core.Option.{Option, some, none}
-use Prim.Native.Nat.{ℕ}
+use Prim.Native.Nat.{ℕ, _%_}
 use native.Mathlib.Omega.{arith}
 use lib.Dec.{eqb}
 use borrow.Author.Tests.{eqb-true}
@@ -12,7 +12,7 @@ use Rattle.gates.specs.declared.Gate.{Gate}
 use Rattle.gates.specs.declared.Gate.the-variants.{X, H, S, Sdg, Z, T, Tdg, Cnot, Cz, Ccx, Ccz, Measure, Reset, Y, Sx, Swap, Cy, Ch, Cswap}
 use Rattle.gates.specs.Gates.{wire, wiresOf, has, touches}
 use Rattle.gates.specs.Records.{recordOf, kindOf, isH}
-use Rattle.rules.specs.Runs.{Rewrite, isHOn, worth, plus, sumOf, bySum, loneX, rewriteOf}
+use Rattle.rules.specs.Runs.{Rewrite, rewrite, isHOn, worth, plus, sumOf, byEighths, bySum, loneX, rewriteOf}
 use Rattle.rules.specs.Steps.{Cell, firstOf, all, track}
 use Rattle.rules.specs.Sweeps.{inRun}
 use Rattle.rules.proofs.EqualLaws.{and-left, and-right}
@@ -146,6 +146,48 @@ between-inside w l r h = go (loneX l) refl (sumOf l) (sum-inside l) h
     go true q o i p = lone-inside l q
     go false q none i p = absurd (none-not-rewrite r p)
     go false q (some k) i p = i
+
+-- ------------------------------------------------------------ what a step of kind 3 puts in
+
+abbrev pub Fits : (Gate → Type 0) → Option Gate → Type 0
+Fits P none = Unit {0}
+Fits P (some g) = P g
+
+-- Of what stands in place of the two h, and of what stands in place of the first gate between them.
+abbrev pub Fit : (Gate → Type 0) → (Gate → Type 0) → Option Rewrite → Type 0
+Fit E F none = Unit {0}
+Fit E F (some r) = Fits E r.ends × Fits F r.first
+
+module _ (E F : Gate → Type 0) (w : Wire) where
+  pub record PutIn : Type 0 where
+    pub s : E (S w)
+    pub sdg : E (Sdg w)
+    pub x : F (X w)
+    pub z : F (Z w)
+    pub h : F (H w)
+
+  eighths-fit : (k : ℕ) → PutIn → Fit E F (byEighths w k)
+  unfolding byEighths
+  eighths-fit k p = go (eqb k 0) (eqb k 4) (eqb k 2) (eqb k 6)
+    where
+      go : (a b c d : Bool) → Fit E F (cond a (rewrite none none) (cond b (rewrite none (some (X w)))
+          (cond c (rewrite (some (Sdg w)) (some (H w))) (cond d (rewrite (some (S w)) (some (H w))) none))))
+      go true b c d = (tt, tt)
+      go false true c d = (tt, p .x)
+      go false false true d = (p .sdg, p .h)
+      go false false false true = (p .s, p .h)
+      go false false false false = tt
+
+  pub rewrite-fit : (l : List Gate) → PutIn → Fit E F (rewriteOf w l)
+  unfolding rewriteOf
+  rewrite-fit l p = go (loneX l) (sumOf l)
+    where
+      go : (b : Bool) (o : Option ℕ) → Fit E F (cond b (rewrite none (some (Z w))) (bySum w o))
+      go true o = (tt, p .z)
+      go false none = tt
+      go false (some k) = eighths-fit (k % 8) p
+
+-- ------------------------------------------------------------ cells
 
 module _ {A : Type 0} where
   -- What holds of a wire's gates holds of each cell on it.

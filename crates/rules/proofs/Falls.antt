@@ -3,17 +3,16 @@ use mathlib.Core.Path.{_≡_, refl, sym, _∙_, ap, subst, subst₂}
 use mathlib.Core.Bool.{Bool, true, false, not, cond, _&&_}
 use mathlib.Core.List.{List, [], _∷_, _++_, append-assoc}
 use mathlib.Core.Option.{Option, some, none}
-use Prim.Native.Nat.{ℕ, _+_, _*_, _/_, _%_, _≤_, _<_}
+use Prim.Native.Nat.{ℕ, _+_, _*_, _/_, _≤_, _<_}
 use native.Mathlib.Omega.{arith}
 use lib.ListN.{length, length-append}
 use lib.Dec.{eqb}
 use Rattle.gates.specs.declared.Wire.{Wire}
 use Rattle.gates.specs.declared.Gate.{Gate}
-use Rattle.gates.specs.declared.Gate.the-variants.{X, H, S, Sdg, Z}
 use Rattle.gates.specs.Gates.{wire, wiresOf, shares, touches}
 use Rattle.gates.specs.Records.{recordOf, isH}
 use Rattle.rules.specs.Equal.{equal, cancels, isPair}
-use Rattle.rules.specs.Runs.{Rewrite, isHOn, sumOf, byEighths, bySum, loneX, rewriteOf}
+use Rattle.rules.specs.Runs.{Rewrite, isHOn, rewriteOf}
 use Rattle.rules.specs.MayPass.{mayPass}
 use Rattle.rules.specs.Steps.{Cell, Step, firstOf, all, track, offWire, put, putFirst, change1, change2, change3, change, act}
 use Rattle.rules.specs.Journal.{replayed, replay}
@@ -21,6 +20,7 @@ use Rattle.rules.specs.Loop.{hCount, size, pass}
 use Rattle.rules.proofs.Names.{if, if-h, rewritten}
 use Rattle.rules.proofs.EqualLaws.{and-left, and-right}
 use Rattle.rules.proofs.Replays.{Leads, leads, pass-replays}
+use Rattle.rules.proofs.Between.{Fits, Fit, rewrite-fit}
 use Rattle.rules.proofs.Acts.{whole, none-not-some, if-true, act-parts, along}
 
 -- an h, or none
@@ -31,32 +31,20 @@ abbrev h-of : Option Gate → ℕ
 h-of none = 0
 h-of (some g) = one-if (isH g)
 
--- what stands in place of the two h is no h
-abbrev Ends : Option Rewrite → Type 0
-Ends none = Unit {0}
-Ends (some s) = h-of s.ends ≡ 0
+-- What stands in place of the two h is no h.
+abbrev NotH : Gate → Type 0
+NotH g = isH g ≡ false
 
-by-turn-ends : (w : Wire) (k : ℕ) → Ends (byEighths w k)
-unfolding byEighths recordOf
-by-turn-ends w k = go (eqb k 0) (eqb k 4) (eqb k 2) (eqb k 6)
-  where
-    go : (a b c d : Bool) →
-        Ends (cond a (some (record { ends = none; first = none })) (cond b (some (record { ends = none; first = some (X w) }))
-        (cond c (some (record { ends = some (Sdg w); first = some (H w) })) (cond d (some (record { ends = some (S w); first = some (H w) })) none))))
-    go true b c d = refl
-    go false true c d = refl
-    go false false true d = refl
-    go false false false true = refl
-    go false false false false = tt
+abbrev Any : Gate → Type 0
+Any g = Unit {0}
 
-between-ends : (w : Wire) (l : List Gate) → Ends (rewriteOf w l)
-unfolding rewriteOf
-between-ends w l = go (loneX l) (sumOf l)
-  where
-    go : (b : Bool) (o : Option ℕ) → Ends (cond b (some (record { ends = none; first = some (Z w) })) (bySum w o))
-    go true o = refl
-    go false none = tt
-    go false (some k) = by-turn-ends w (k % 8)
+ends-fit : (w : Wire) (l : List Gate) → Fit NotH Any (rewriteOf w l)
+unfolding recordOf
+ends-fit w l = rewrite-fit NotH Any w l (record { s = refl; sdg = refl; x = tt; z = tt; h = tt })
+
+ends-no-h : (o : Option Gate) → Fits NotH o → h-of o ≡ 0
+ends-no-h none f = refl
+ends-no-h (some g) f = ap one-if f
 
 one-less : (g : Bool) → one-if g ≤ 1
 one-less true = omega arith
@@ -144,10 +132,10 @@ module _ {A : Type 0} where
 
   had-less : (b : Bool) (w : ℕ) (e : Cell A) (m : List (Cell A)) (f : Cell A) (n : List (Cell A)) →
       isH (e .gate) && isHOn w (f .gate) ≡ b →
-      (o : Option Rewrite) → Ends o → if-h b (rewritten w e m f o) ≡ some n → Less n (whole e m f)
+      (o : Option Rewrite) → Fit NotH Any o → if-h b (rewritten w e m f o) ≡ some n → Less n (whole e m f)
   had-less true w e m f n q (some s) z r = let p : put s.ends e (putFirst w s.first m ++ put s.ends f []) ≡ n = cc in
       subst (λ x. Less x (whole e m f)) p
-      (swap-less w e m f s (and-left (isH (e .gate)) _ q) (and-left (isH (f .gate)) _ (and-right (isH (e .gate)) _ q)) z)
+      (swap-less w e m f s (and-left (isH (e .gate)) _ q) (and-left (isH (f .gate)) _ (and-right (isH (e .gate)) _ q)) (ends-no-h s.ends (z .0)))
   had-less true w e m f n q none z r = absurd (none-not-some n r)
   had-less false w e m f n q o z r = absurd (none-not-some n r)
 
@@ -162,7 +150,7 @@ module _ {A : Type 0} where
       go false true c q = if-less (isPair (e .gate) && (equal (e .gate) (f .gate) && all (mayPass (e .gate)) m)) e m f n q
       go false false true q = let w : ℕ = firstOf (wiresOf (e .gate)) in
           had-less (isH (e .gate) && isHOn w (f .gate)) w e m f n refl (rewriteOf (wire w) (track w m))
-          (between-ends (wire w) (track w m)) q
+          (ends-fit (wire w) (track w m)) q
       go false false false q = absurd (none-not-some n q)
 
   -- ------------------------------------------------------------ a step on a list

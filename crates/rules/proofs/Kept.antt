@@ -3,7 +3,7 @@ use mathlib.Core.Path.{_≡_, refl, sym, _∙_, ap, subst}
 use mathlib.Core.Bool.{Bool, true, false, not, cond, _&&_}
 use mathlib.Core.List.{List, [], _∷_, _++_}
 use mathlib.Core.Option.{Option, some, none}
-use Prim.Native.Nat.{ℕ, _%_}
+use Prim.Native.Nat.{ℕ}
 use native.Mathlib.Omega.{arith}
 use lib.Dec.{eqb}
 use Rattle.gates.specs.declared.Wire.{Wire}
@@ -13,7 +13,7 @@ use Rattle.gates.specs.declared.Gate.the-variants.{X, H, S, Sdg, Z, Measure}
 use Rattle.gates.specs.Gates.{wire, wiresOf, has, twice, shares, touches, Valid}
 use Rattle.gates.specs.Records.{recordOf, kindOf, isH}
 use Rattle.rules.specs.Equal.{equal, cancels, isPair}
-use Rattle.rules.specs.Runs.{Rewrite, isHOn, sumOf, byEighths, bySum, loneX, rewriteOf}
+use Rattle.rules.specs.Runs.{Rewrite, isHOn, rewriteOf}
 use Rattle.rules.specs.MayPass.{mayPass}
 use Rattle.rules.specs.Steps.{Cell, Step, firstOf, all, track, offWire, put, putFirst, change1, change2, change3, change, act}
 use Rattle.rules.specs.Journal.{replayed, replay}
@@ -21,7 +21,7 @@ use Rattle.rules.specs.Sweeps.{Sweep, pairSweep, commutingSweep, hadamar
 use Rattle.rules.specs.Loop.{pass}
 use Rattle.rules.proofs.Names.{if, rewritten}
 use Rattle.rules.proofs.EqualLaws.{and-left}
-use Rattle.rules.proofs.Between.{is-h}
+use Rattle.rules.proofs.Between.{is-h, Fits, Fit, PutIn, rewrite-fit}
 use Rattle.rules.proofs.Replays.{Leads, leads, Replays, pair-replays, hadamard-replays, commuting-replays, pass-replays}
 use Rattle.rules.proofs.Acts.{none-not-some, if-true, if-h-true, act-parts, along}
 
@@ -33,38 +33,8 @@ module _ (P : Gate → Type 0) where
     pub to-s : (v : Wire) → P (H v) → P (S v)
     pub to-sdg : (v : Wire) → P (H v) → P (Sdg v)
 
-  -- ------------------------------------------------------------ what a step puts in
-
-  abbrev pub Fits : Option Gate → Type 0
-  Fits none = Unit {0}
-  Fits (some g) = P g
-
-  abbrev pub Fit : Option Rewrite → Type 0
-  Fit none = Unit {0}
-  Fit (some r) = Fits r.ends × Fits r.first
-
-  module _ (st : Stable) where
-    eighths-fit : (w : Wire) (k : ℕ) → P (H w) → Fit (byEighths w k)
-    unfolding byEighths
-    eighths-fit w k h = go (eqb k 0) (eqb k 4) (eqb k 2) (eqb k 6)
-      where
-        go : (a b c d : Bool) →
-            Fit (cond a (some (record { ends = none; first = none })) (cond b (some (record { ends = none; first = some (X w) }))
-            (cond c (some (record { ends = some (Sdg w); first = some (H w) })) (cond d (some (record { ends = some (S w); first = some (H w) })) none))))
-        go true b c d = (tt, tt)
-        go false true c d = (tt, st .to-x w h)
-        go false false true d = (st .to-sdg w h, h)
-        go false false false true = (st .to-s w h, h)
-        go false false false false = tt
-
-    pub rewrite-fit : (w : Wire) (l : List Gate) → P (H w) → Fit (rewriteOf w l)
-    unfolding rewriteOf
-    rewrite-fit w l h = go (loneX l) (sumOf l)
-      where
-        go : (b : Bool) (o : Option ℕ) → Fit (cond b (some (record { ends = none; first = some (Z w) })) (bySum w o))
-        go true o = (tt, st .to-z w h)
-        go false none = tt
-        go false (some k) = eighths-fit w (k % 8) h
+  put-in : Stable → (w : Wire) → P (H w) → PutIn P P w
+  put-in st w h = record { s = st .to-s w h; sdg = st .to-sdg w h; x = st .to-x w h; z = st .to-z w h; h = h }
 
   -- ------------------------------------------------------------ lists
 
@@ -94,11 +64,11 @@ module _ (P : Gate → Type 0) where
         go true i = i
         go false i = (h .0, i)
 
-    put-kept : (o : Option Gate) (e : Cell A) (l : List (Cell A)) → Fits o → AllOf l → AllOf (put o e l)
+    put-kept : (o : Option Gate) (e : Cell A) (l : List (Cell A)) → Fits P o → AllOf l → AllOf (put o e l)
     put-kept none e l f h = h
     put-kept (some g) e l f h = (f, h)
 
-    put-first-kept : (w : ℕ) (o : Option Gate) (l : List (Cell A)) → Fits o → AllOf l → AllOf (putFirst w o l)
+    put-first-kept : (w : ℕ) (o : Option Gate) (l : List (Cell A)) → Fits P o → AllOf l → AllOf (putFirst w o l)
     unfolding putFirst
     put-first-kept w o [] f h = tt
     put-first-kept w o (e ∷ l) f h = go (touches w (e .gate)) (put-first-kept w o l f (h .1))
@@ -107,7 +77,7 @@ module _ (P : Gate → Type 0) where
         go true i = put-kept o e (offWire w l) f (off-kept w l (h .1))
         go false i = (h .0, i)
 
-    rewritten-kept : (w : ℕ) (e : Cell A) (m : List (Cell A)) (f : Cell A) (n : List (Cell A)) (o : Option Rewrite) → Fit o →
+    rewritten-kept : (w : ℕ) (e : Cell A) (m : List (Cell A)) (f : Cell A) (n : List (Cell A)) (o : Option Rewrite) → Fit P P o →
         AllOf m →
         rewritten w e m f o ≡ some n → AllOf n
     rewritten-kept w e m f n none z h r = absurd (none-not-some n r)
@@ -136,7 +106,7 @@ module _ (P : Gate → Type 0) where
           go false false true r =
               let x = if-h-true (isH (e .gate) && isHOn w (f .gate)) (rewritten w e m f (rewriteOf (wire w) (track w m))) n r in
               rewritten-kept w e m f n (rewriteOf (wire w) (track w m))
-              (rewrite-fit st (wire w) (track w m) (subst P (is-h (e .gate) (and-left (isH (e .gate)) _ (x .0))) i)) h (x .1)
+              (rewrite-fit P P (wire w) (track w m) (put-in st (wire w) (subst P (is-h (e .gate) (and-left (isH (e .gate)) _ (x .0))) i))) h (x .1)
           go false false false r = absurd (none-not-some n r)
 
       pub act-kept : (s : Step) (l r : List (Cell A)) → act kinds s l ≡ some r → AllOf l → AllOf r

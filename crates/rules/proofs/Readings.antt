@@ -20,10 +20,9 @@ use Rattle.rules.specs.Loop.{pass}
 use Rattle.rules.proofs.Names.{if, rewritten}
 use Rattle.rules.proofs.EqualLaws.{and-left, and-right, equal-parts, cancels-equal}
 use Rattle.rules.proofs.Cuts.{all-then}
-use Rattle.rules.proofs.Between.{inside, isReading, inside-no-reading, between-inside, track-every}
+use Rattle.rules.proofs.Between.{Fits, Fit, rewrite-fit, inside, isReading, inside-no-reading, between-inside, track-every}
 use Rattle.rules.proofs.Replays.{Leads, leads, Replays, pair-replays, hadamard-replays, commuting-replays, pass-replays}
 use Rattle.rules.proofs.Acts.{whole, none-not-some, if-true, if-h-true, act-parts, along}
-use Rattle.rules.proofs.Kept.{Fits, Fit, rewrite-fit}
 
 -- ------------------------------------------------------------ which gates go
 
@@ -134,7 +133,7 @@ module _ {A : Type 0} where
   rewritten-readings : (w : ℕ) (e : Cell A) (m : List (Cell A)) (f : Cell A) (n : List (Cell A)) → isH (e .gate) ≡ true →
       isH (f .gate) ≡ true →
       (o : Option Rewrite) → rewriteOf (wire w)
-      (track w m) ≡ o → Fit NoReading o → rewritten w e m f o ≡ some n → readings n ≡ readings (whole e m f)
+      (track w m) ≡ o → Fit NoReading NoReading o → rewritten w e m f o ≡ some n → readings n ≡ readings (whole e m f)
   unfolding readings
   rewritten-readings w e m f n he hf none p z r = absurd (none-not-some n r)
   rewritten-readings w e m f n he hf (some s) p z r = let q : put s.ends e (putFirst w s.first m ++ put s.ends f []) ≡ n = cc in
@@ -177,7 +176,7 @@ module _ {A : Type 0} (kinds : List ℕ) (u : Unread kinds) where
           let y = and-right (isH (e .gate)) _ (x .0) in
           rewritten-readings w e m f n (and-left (isH (e .gate)) _ (x .0)) (and-left (isH (f .gate)) _ y)
           (rewriteOf (wire w) (track w m)) refl
-          (rewrite-fit NoReading (record { to-x = λ v k. refl; to-z = λ v k. refl; to-s = λ v k. refl; to-sdg = λ v k. refl }) (wire w) (track w m) refl) (x .1)
+          (rewrite-fit NoReading NoReading (wire w) (track w m) (record { s = refl; sdg = refl; x = refl; z = refl; h = refl })) (x .1)
       go false false false r = absurd (none-not-some n r)
 
   pub act-readings : (s : Step) (l r : List (Cell A)) → act kinds s l ≡ some r → readings r ≡ readings l
