@@ -4,6 +4,7 @@
 mod cancel;
 pub mod circuit;
 mod pass;
+mod steps;
 
 // Stand-ins for what is not in the text given, each under its published name.
 #[path = "stand_in/angle.rs"]
@@ -22,6 +23,7 @@ pub mod notation;
 pub mod records;
 
 pub use cancel::Round;
+pub use steps::Steps;
 
 use circuit::Circuit;
 use pass::Pass;
@@ -53,6 +55,14 @@ pub fn rounds(wires: usize, bits: usize, list: &[u8]) -> Vec<Round> {
     let mut rounds = Vec::new();
     cancel::run_in_rounds(&circuit_of(wires, bits, list), |round| rounds.push(round));
     rounds
+}
+
+/// The same answer by a copy of the text that counts, and the steps that a
+/// journal of the pass has on valid records.
+pub fn run_with_steps(wires: usize, bits: usize, list: &[u8]) -> (Answer, Steps) {
+    let (output, walked, steps) = steps::run_with_steps(&circuit_of(wires, bits, list));
+    let list = records::encode(output.gates());
+    (Answer { list, walked }, steps)
 }
 
 /// Built in place: `decode` has already looked for a wire named twice.

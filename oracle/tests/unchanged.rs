@@ -47,6 +47,24 @@ fn only_the_leading_mark_is_gone() {
     }
 }
 
+/// What counts has a call after each `changed = true;` of the Hadamard sweep,
+/// and is else the text compiled.
+#[test]
+fn only_two_calls_count() {
+    const CALL: &str = " count_firing();";
+    let counting = include_str!(concat!(env!("OUT_DIR"), "/cancel_counting.rs"));
+    let [(_, _, _, compiled), ..] = FILES;
+    assert!(counting.replace(CALL, "") == compiled);
+    let (_, rest) = counting
+        .split_once("\nfn reduce_hadamards_pass(")
+        .expect("it");
+    let (sweep, _) = rest.split_once("\n}\n").expect("its end");
+    assert_eq!(counting.matches(CALL).count(), 2);
+    for text in [CALL, &format!("changed = true;{CALL}"), "changed = true;"] {
+        assert_eq!(sweep.matches(text).count(), 2, "{text}");
+    }
+}
+
 #[test]
 fn sha256_of_known_texts() {
     assert_eq!(

@@ -8,9 +8,10 @@ mod op;
 mod random;
 pub mod rng;
 mod short;
+pub mod small;
 
 pub use family::Family;
-pub use random::random;
+pub use random::{dense, random};
 pub use short::{all_short, alphabet_one_wire, alphabet_three_wires, alphabet_two_wires};
 
 /// A valid list with the numbers of wires and classical bits it is valid on.

@@ -14,22 +14,21 @@ pub fn random(seed: u64) -> Case {
     let mut rng = Rng::new(seed);
     let wires = 1 + rng.below(8);
     let bits = rng.below(3);
-    let mut maker = Maker {
-        rng,
-        wires,
-        bits,
-        ops: Vec::new(),
-    };
-    let length = maker.rng.below(57);
-    while maker.ops.len() < length {
-        maker.add_block();
-    }
-    maker.strew();
-    Case {
-        wires,
-        bits,
-        list: list_of(&maker.ops),
-    }
+    let length = rng.below(57);
+    Maker::new(rng, wires, bits).filled(length).case()
+}
+
+/// A list on 2 to 5 wires and 1 or 2 bits, of up to 20 gates, most of them many:
+/// on few wires nearly every gate meets another.
+pub fn dense(seed: u64) -> Case {
+    const LONGEST: usize = 20;
+    let mut rng = Rng::new(seed);
+    let wires = 2 + rng.below(4);
+    let bits = 1 + rng.below(2);
+    let length = 8 + rng.below(LONGEST - 7);
+    let mut maker = Maker::new(rng, wires, bits).filled(length);
+    maker.ops.truncate(LONGEST);
+    maker.case()
 }
 
 struct Maker {
@@ -40,6 +39,33 @@ struct Maker {
 }
 
 impl Maker {
+    fn new(rng: Rng, wires: usize, bits: usize) -> Self {
+        let ops = Vec::new();
+        Self {
+            rng,
+            wires,
+            bits,
+            ops,
+        }
+    }
+
+    /// With blocks up to a length or a little over it.
+    fn filled(mut self, length: usize) -> Self {
+        while self.ops.len() < length {
+            self.add_block();
+        }
+        self.strew();
+        self
+    }
+
+    fn case(self) -> Case {
+        Case {
+            wires: self.wires,
+            bits: self.bits,
+            list: list_of(&self.ops),
+        }
+    }
+
     fn add_block(&mut self) {
         match self.rng.below(14) {
             0..3 => self.mirrored_block(),
