@@ -231,7 +231,7 @@ module _ {A : Type 0} where
   open-same f g w i e l h false = ap (stay (e ∷ [])) (h (suc i) l (omega arith))
 
   -- Any fuel that is enough does the same.
-  enough : (n m w i : ℕ) (l : List (Cell A)) → length l ≤ n → length l ≤ m → nextHFrom n w i l ≡ nextHFrom m w i l
+  pub enough : (n m w i : ℕ) (l : List (Cell A)) → length l ≤ n → length l ≤ m → nextHFrom n w i l ≡ nextHFrom m w i l
   unfolding nextHFrom
   enough zero zero w i l p q = refl
   enough zero (suc m) w i [] p q = refl

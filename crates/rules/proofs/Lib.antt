@@ -17,3 +17,4 @@ pub mod Kept
 pub mod Readings
 pub mod Stuck
 pub mod JournalBytes
+pub mod Fuel
