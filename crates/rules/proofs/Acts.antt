@@ -1,14 +1,14 @@
 -- What an allowed step found and left, and induction along a journal.
 use mathlib.Core.Path.{_≡_, refl, sym, _∙_, ap, subst}
-use mathlib.Core.Bool.{Bool, true, false, _&&_}
+use mathlib.Core.Bool.{Bool, true, false}
 use mathlib.Core.List.{List, [], _∷_, _++_}
 use mathlib.Core.Option.{Option, some, none}
 use Prim.Native.Nat.{ℕ, suc, _+_, _-_, _<_}
 use native.Mathlib.Omega.{arith}
 use lib.ListN.{length}
-use lib.Dec.{eqb, ltb}
+use lib.Dec.{eqb}
 use borrow.Author.Tests.{ltb-true, eqb-true}
-use Rattle.rules.specs.Steps.{Cell, Step, Cut, change, cutAt, act}
+use Rattle.rules.specs.Steps.{Cell, Step, inForm, Cut, change, cutAt, act}
 use Rattle.rules.specs.Journal.{replayed, replayFrom}
 use Rattle.rules.proofs.Names.{if, if-h, joined, to-last, to-first, then}
 use Rattle.rules.proofs.EqualLaws.{and-left, and-right}
@@ -79,9 +79,9 @@ module _ {A : Type 0} (kinds : List ℕ) where
 
   pub act-parts : (s : Step) (l r : List (Cell A)) → act kinds s l ≡ some r → Acted s l r
   unfolding act
-  act-parts s l r h = go (eqb s.fourth 0 && ltb s.first s.last) refl h
+  act-parts s l r h = go (inForm s) refl h
     where
-      go : (b : Bool) → eqb s.fourth 0 && ltb s.first s.last ≡ b →
+      go : (b : Bool) → inForm s ≡ b →
           if-h b (to-first kinds s.kind (s .last - suc s.first) (cutAt s.first l)) ≡ some r → Acted s l r
       go true t v =
           acted-first s l r (eqb-true s.fourth 0 (and-left _ _ t)) (ltb-true s.first s.last (and-right (eqb s.fourth 0) _ t))

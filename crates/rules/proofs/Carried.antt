@@ -5,14 +5,14 @@ use mathlib.Core.List.{List, [], _∷_, _++_, map, reverseAux}
 use mathlib.Core.Option.{Option, some, none}
 use Prim.Native.Nat.{ℕ, zero, suc, _+_, _-_}
 use lib.ListN.{length}
-use lib.Dec.{eqb, ltb}
+use lib.Dec.{eqb}
 use Rattle.gates.specs.declared.Gate.{Gate}
 use Rattle.gates.specs.Gates.{wire, wiresOf, shares, touches}
 use Rattle.gates.specs.Records.{isH}
 use Rattle.rules.specs.Equal.{canonical, equal, cancels, isPair}
 use Rattle.rules.specs.Runs.{Rewrite, isHOn, rewriteOf}
 use Rattle.rules.specs.MayPass.{mayPass}
-use Rattle.rules.specs.Steps.{Cell, Step, Cut, onto, firstOf, all, track, offWire, put, putFirst, change1, change2, change3, change, cutAt, act}
+use Rattle.rules.specs.Steps.{Cell, Step, inForm, Cut, onto, firstOf, all, track, offWire, put, putFirst, change1, change2, change3, change, cutAt, act}
 use Rattle.rules.specs.Journal.{Replayed, replayed, refusedAt, replayFrom}
 use Rattle.rules.specs.Sweeps.{Done, Sweep, Walk, reached, blocked, short, idle, stay, fire, walked, cut, pairsFrom, pairSweep, walk, room, tracks, walkPast, commutingFrom, commutingSweep, and, followed, hadamardSweep}
 use Rattle.rules.specs.Loop.{againIf, repeat, hCount, size, repeated, round, pass}
@@ -327,7 +327,7 @@ module _ {A B : Type 0} (φ : A → B) where
       ∙ if-h-re t (to-first kinds s.kind n (cutAt s.first l))
     where
       t : Bool
-      t = eqb s.fourth 0 && ltb s.first s.last
+      t = inForm s
 
       n : ℕ
       n = s .last - suc s.first

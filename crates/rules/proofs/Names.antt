@@ -9,7 +9,7 @@ use Rattle.rules.specs.Equal.{equal, cancels}
 use Rattle.rules.specs.Runs.{Rewrite}
 use Rattle.rules.specs.Steps.{Cell, Cut, andThen, try, when, put, putFirst, change, cutAt}
 use Rattle.rules.specs.Journal.{Replayed, refusedAt}
-use Rattle.rules.specs.Sweeps.{Done, Walk, blocked, more, stay, fire, cut, walked, walkPast}
+use Rattle.rules.specs.Sweeps.{Done, Walk, blocked, more, stay, fire, cut, walked, without, walkPast}
 
 abbrev pub walk-on : (List (List Gate) → Walk) → List (List Gate) → List Gate → Bool → Walk
 walk-on again ts t b = cond b (more (again (ts ++ (t ∷ [])))) (blocked 1)
@@ -41,7 +41,7 @@ module _ {A : Type 0} where
   -- ------------------------------------------------------------ the pair sweep
 
   abbrev pub pair-if : (List (Cell A) → Done A) → List (Cell A) → Cell A → Cut A → Bool → Done A
-  pair-if again gone e c b = cond b (fire 1 (length c.after) (length gone) (again (c .before ++ c .after))) (again (e ∷ gone))
+  pair-if again gone e c b = cond b (fire 1 (length c.after) (length gone) (again (without c))) (again (e ∷ gone))
 
   abbrev pub pair-with : List ℕ → (List (Cell A) → Done A) → List (Cell A) → Cell A → Option (Cut A) → Done A
   pair-with kinds again gone e o =
@@ -54,7 +54,7 @@ module _ {A : Type 0} where
 
   abbrev pub com-walk : (ℕ → List (Cell A) → Done A) → ℕ → Cell A → List (Cell A) → Cut A → Walk → Done A
   com-walk again i e l c w =
-      walked w (fire 2 i (suc i + length c.before) (again i (c .before ++ c .after))) (kept again i e l)
+      walked w (fire 2 i (suc i + length c.before) (again i (without c))) (kept again i e l)
 
   abbrev pub com-with : (ℕ → List (Cell A) → Done A) → ℕ → Cell A → List (Cell A) → Option (Cut A) → Done A
   com-with again i e l o = try o (kept again i e l) λ c. com-walk again i e l c (walkPast (e .gate) c.before)

@@ -32,6 +32,10 @@ pub record Cut (A : Type 0) : Type 0 where
   pub here : Cell A
   pub after : List (Cell A)
 
+-- "First is less than last"; the last word is 0.
+abbrev pub inForm : Step → Bool
+inForm s = eqb s.fourth 0 && ltb s.first s.last
+
 -- ------------------------------------------------------------ answers that may be none
 
 module _ {X Y : Type 0} where
@@ -111,10 +115,10 @@ module _ {A : Type 0} where
   cutAt zero (e ∷ l) = some (record { before = []; here = e; after = l })
   cutAt (suc n) (e ∷ l) = onto e (cutAt n l)
 
-  -- "Positions belong to the list as it stands just before that step." "First is less than last."
+  -- "Positions belong to the list as it stands just before that step."
   unfoldable pub act : List ℕ → Step → List (Cell A) → Option (List (Cell A))
   act kinds s l =
-      when (eqb s.fourth 0 && ltb s.first s.last) (andThen (cutAt s.first l) λ c.
+      when (inForm s) (andThen (cutAt s.first l) λ c.
       andThen (cutAt (s .last - suc s.first) c.after) λ d.
       andThen (change kinds s.kind c.here d.before d.here) λ m.
       some (c .before ++ (m ++ d .after)))

@@ -47,6 +47,10 @@ module _ {A : Type 0} where
   cut p [] = none
   cut p (e ∷ l) = let later = onto e (cut p l) in cond (p (e .gate)) (some (record { before = []; here = e; after = l })) later
 
+  -- What is left of a list when the cell at which it is parted goes.
+  abbrev pub without : Cut A → List (Cell A)
+  without c = c .before ++ c .after
+
 -- ------------------------------------------------------------ pair sweep
 
 module _ {A : Type 0} (kinds : List ℕ) where
@@ -57,7 +61,7 @@ module _ {A : Type 0} (kinds : List ℕ) where
   pairsFrom gone (e ∷ l) =
       let stays = pairsFrom (e ∷ gone) l in
       try (cut (shares (e .gate)) gone) stays λ blocker.
-      let goes = fire 1 (length blocker.after) (length gone) (pairsFrom (blocker .before ++ blocker .after) l) in
+      let goes = fire 1 (length blocker.after) (length gone) (pairsFrom (without blocker) l) in
       cond (cancels kinds (blocker .here .gate) (e .gate)) goes stays
 
   -- "Go forward."
@@ -161,7 +165,7 @@ module _ {A : Type 0} where
   commutingFrom (suc n) i (e ∷ l) =
       let stays = stay (e ∷ []) (commutingFrom n (suc i) l) in
       try (when (isPair (e .gate)) (cut (equal (e .gate)) l)) stays λ partner.
-      let goes = fire 2 i (suc i + length partner.before) (commutingFrom n i (partner .before ++ partner .after)) in
+      let goes = fire 2 i (suc i + length partner.before) (commutingFrom n i (without partner)) in
       walked (walkPast (e .gate) partner.before) goes stays
 
   unfoldable pub commutingSweep : Sweep A
