@@ -1,16 +1,13 @@
 //! The program `rows`, run as a script would.
 
-use std::process::{Command, Output};
+mod programs;
+
+use std::process::Output;
+
+use programs::{run, text};
 
 fn rows(words: &[&str]) -> Output {
-    Command::new(env!("CARGO_BIN_EXE_rows"))
-        .args(words)
-        .output()
-        .expect("the program starts")
-}
-
-fn text(bytes: &[u8]) -> String {
-    String::from_utf8(bytes.to_vec()).expect("it writes text")
+    run(env!("CARGO_BIN_EXE_rows"), words)
 }
 
 #[test]

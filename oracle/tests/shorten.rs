@@ -1,17 +1,14 @@
 //! The program `shorten`, run as a person would.
 
+mod programs;
+
 use std::path::PathBuf;
-use std::process::{Command, Output};
+use std::process::Output;
+
+use programs::{run, text};
 
 fn shorten(words: &[&str]) -> Output {
-    Command::new(env!("CARGO_BIN_EXE_shorten"))
-        .args(words)
-        .output()
-        .expect("the program starts")
-}
-
-fn text(bytes: &[u8]) -> String {
-    String::from_utf8(bytes.to_vec()).expect("it writes text")
+    run(env!("CARGO_BIN_EXE_shorten"), words)
 }
 
 #[test]
