@@ -13,14 +13,10 @@ use Rattle.gates.specs.declared.Gate.{Gate}
 use Rattle.gates.specs.declared.Gate.the-variants.{X, Cnot, Ccx}
 use Rattle.gates.specs.Gates.{wiresOf, has, meet, touches, shares}
 use Rattle.rules.specs.MayPass.{Class, x, cnot, ccx, diagonal, other, classOf, off, pastDiagonal, past, mayPass}
-use Rattle.rules.proofs.EqualLaws.{eqb-comm}
+use Rattle.rules.proofs.EqualLaws.{neither, eqb-comm}
 use Rattle.leaves.proofs.VariantLaws.{classNumber, Traits, traitsAt, by-place}
 
 -- ------------------------------------------------------------ truth values
-
-neither : (a b : Bool) → (a || b) ≡ false → (a ≡ false) × (b ≡ false)
-neither true b e = ((cc), (cc))
-neither false b e = (refl, e)
 
 not-or : (a b : Bool) → not (a || b) ≡ (not a && not b)
 not-or true b = refl

@@ -11,7 +11,7 @@ use borrow.Author.Tests.{ltb-true, eqb-true}
 use Rattle.rules.specs.Steps.{Cell, Step, inForm, Cut, change, cutAt, act}
 use Rattle.rules.specs.Journal.{replayed, replayFrom}
 use Rattle.rules.proofs.Names.{if, if-h, joined, to-last, to-first, then}
-use Rattle.rules.proofs.EqualLaws.{and-left, and-right}
+use Rattle.rules.proofs.EqualLaws.{and-left, and-right, none-not-some}
 use Rattle.rules.proofs.Cuts.{CutAt, AtParts, cut-at-parts}
 use Rattle.rules.proofs.Replays.{Leads, leads, refused-not-replayed, replayed-same}
 
@@ -19,9 +19,6 @@ module _ {A : Type 0} where
   -- Two cells and those between, as they stand in a list.
   abbrev pub whole : Cell A → List (Cell A) → Cell A → List (Cell A)
   whole e m f = e ∷ (m ++ (f ∷ []))
-
-  pub none-not-some : (n : List (Cell A)) → _≡_ {A = Option (List (Cell A))} none (some n) → ⊥
-  none-not-some n q = let z : _≡_ {A = ℕ} 0 1 = cc in omega arith
 
   pub if-true : (b : Bool) (m n : List (Cell A)) → if b m ≡ some n → (b ≡ true) × (m ≡ n)
   if-true true m n h = (refl, cc)

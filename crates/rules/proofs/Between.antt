@@ -4,7 +4,6 @@ use mathlib.Core.Bool.{Bool, true, false, not, cond, _||_, _&&_}
 use mathlib.Core.List.{List, [], _∷_}
 use mathlib.Core.Option.{Option, some, none}
 use Prim.Native.Nat.{ℕ, _%_}
-use native.Mathlib.Omega.{arith}
 use lib.Dec.{eqb}
 use borrow.Author.Tests.{eqb-true}
 use Rattle.gates.specs.declared.Wire.{Wire}
@@ -15,7 +14,7 @@ use Rattle.gates.specs.Records.{recordOf, kindOf, isH}
 use Rattle.rules.specs.Runs.{Rewrite, rewrite, isHOn, worth, plus, sumOf, byEighths, bySum, loneX, rewriteOf}
 use Rattle.rules.specs.Steps.{Cell, firstOf, all, track}
 use Rattle.rules.specs.Sweeps.{inRun}
-use Rattle.rules.proofs.EqualLaws.{and-left, and-right}
+use Rattle.rules.proofs.EqualLaws.{and-left, and-right, neither, none-not-some}
 
 -- ------------------------------------------------------------ an h on a wire
 
@@ -60,49 +59,34 @@ inside g = eqb (kindOf g) 0 || inRun (worth g)
 abbrev pub isReading : Gate → Bool
 isReading g = has (kindOf g) (12 ∷ 13 ∷ [])
 
+-- An h, a measure and a reset are none of them.
+inside-kind : (g : Gate) → inside g ≡ true → eqb (kindOf g) 1 || isReading g ≡ false
+unfolding recordOf worth has
+inside-kind (X w) h = refl
+inside-kind (H w) h = sym h
+inside-kind (S w) h = refl
+inside-kind (Sdg w) h = refl
+inside-kind (Z w) h = refl
+inside-kind (T w) h = refl
+inside-kind (Tdg w) h = refl
+inside-kind (Cnot c t) h = refl
+inside-kind (Cz c t) h = refl
+inside-kind (Ccx c d t) h = refl
+inside-kind (Ccz c d t) h = refl
+inside-kind (Measure w b) h = sym h
+inside-kind (Reset w) h = sym h
+inside-kind (Y w) h = refl
+inside-kind (Sx w) h = refl
+inside-kind (Swap a b) h = refl
+inside-kind (Cy c t) h = refl
+inside-kind (Ch c t) h = refl
+inside-kind (Cswap c a b) h = refl
+
 pub inside-no-h : (g : Gate) → inside g ≡ true → isH g ≡ false
-unfolding recordOf worth
-inside-no-h (X w) h = refl
-inside-no-h (H w) h = sym h
-inside-no-h (S w) h = refl
-inside-no-h (Sdg w) h = refl
-inside-no-h (Z w) h = refl
-inside-no-h (T w) h = refl
-inside-no-h (Tdg w) h = refl
-inside-no-h (Cnot c t) h = refl
-inside-no-h (Cz c t) h = refl
-inside-no-h (Ccx c d t) h = refl
-inside-no-h (Ccz c d t) h = refl
-inside-no-h (Measure w b) h = refl
-inside-no-h (Reset w) h = refl
-inside-no-h (Y w) h = refl
-inside-no-h (Sx w) h = refl
-inside-no-h (Swap a b) h = refl
-inside-no-h (Cy c t) h = refl
-inside-no-h (Ch c t) h = refl
-inside-no-h (Cswap c a b) h = refl
+inside-no-h g h = neither (isH g) (isReading g) (inside-kind g h) .0
 
 pub inside-no-reading : (g : Gate) → inside g ≡ true → isReading g ≡ false
-unfolding recordOf worth has
-inside-no-reading (X w) h = refl
-inside-no-reading (H w) h = refl
-inside-no-reading (S w) h = refl
-inside-no-reading (Sdg w) h = refl
-inside-no-reading (Z w) h = refl
-inside-no-reading (T w) h = refl
-inside-no-reading (Tdg w) h = refl
-inside-no-reading (Cnot c t) h = refl
-inside-no-reading (Cz c t) h = refl
-inside-no-reading (Ccx c d t) h = refl
-inside-no-reading (Ccz c d t) h = refl
-inside-no-reading (Measure w b) h = sym h
-inside-no-reading (Reset w) h = sym h
-inside-no-reading (Y w) h = refl
-inside-no-reading (Sx w) h = refl
-inside-no-reading (Swap a b) h = refl
-inside-no-reading (Cy c t) h = refl
-inside-no-reading (Ch c t) h = refl
-inside-no-reading (Cswap c a b) h = refl
+inside-no-reading g h = neither (isH g) (isReading g) (inside-kind g h) .1
 
 -- ------------------------------------------------------------ rows of gates
 
@@ -133,9 +117,6 @@ lone-inside [] h = refl
 lone-inside (g ∷ []) h = ap (λ b. (b || inRun (worth g)) && true) h
 lone-inside (g ∷ k ∷ l) h = cc
 
-none-not-rewrite : (r : Rewrite) → _≡_ {A = Option Rewrite} none (some r) → ⊥
-none-not-rewrite r q = let z : _≡_ {A = ℕ} 0 1 = cc in omega arith
-
 -- What a step of kind 3 rewrites is an x or a run.
 pub between-inside : (w : Wire) (l : List Gate) (r : Rewrite) → rewriteOf w l ≡ some r → every inside l ≡ true
 unfolding rewriteOf
@@ -144,7 +125,7 @@ between-inside w l r h = go (loneX l) refl (sumOf l) (sum-inside l) h
     go : (b : Bool) → loneX l ≡ b → (o : Option ℕ) → Inside l o →
         cond b (some (record { ends = none; first = some (Z w) })) (bySum w o) ≡ some r → every inside l ≡ true
     go true q o i p = lone-inside l q
-    go false q none i p = absurd (none-not-rewrite r p)
+    go false q none i p = absurd (none-not-some r p)
     go false q (some k) i p = i
 
 -- ------------------------------------------------------------ what a step of kind 3 puts in

@@ -31,9 +31,12 @@ module _ {A B : Type 0} (φ : A → B) where
   re-list none = none
   re-list (some l) = some (res l)
 
+  abbrev re-at : Cut A → Cut B
+  re-at c = record { before = res c.before; here = re c.here; after = res c.after }
+
   abbrev re-cut : Option (Cut A) → Option (Cut B)
   re-cut none = none
-  re-cut (some c) = some (record { before = res c.before; here = re c.here; after = res c.after })
+  re-cut (some c) = some (re-at c)
 
   abbrev pub re-done : Done A → Done B
   re-done d = record { list = res d.list; steps = d .steps; looks = d .looks }
@@ -165,7 +168,7 @@ module _ {A B : Type 0} (φ : A → B) where
 
       at-if : (c : Cut A) (b : Bool) → Ih →
           pair-if (λ d. pairsFrom kinds d (res l)) (res gone) (re e)
-          (record { before = res c.before; here = re c.here; after = res c.after }) b ≡ re-done
+          (re-at c) b ≡ re-done
           (pair-if (λ d. pairsFrom kinds d l) gone e c b)
       at-if c true h = λ i. fire 1 (res-length c.after i) (res-length gone i)
           ((ap (λ x. pairsFrom kinds x (res l)) (res-append c.before c.after) ∙ h (c .before ++ c .after)) i)
@@ -190,7 +193,7 @@ module _ {A B : Type 0} (φ : A → B) where
       stays h = ap (stay (re e ∷ [])) (h (suc i) l)
 
       at-new : (c : Cut A) (o : Option (List (Cell A))) → Ih →
-          had-new (nextHFrom n w) i (re e) (res l) (record { before = res c.before; here = re c.here; after = res c.after })
+          had-new (nextHFrom n w) i (re e) (res l) (re-at c)
           (re-list o) ≡ re-done (had-new (nextHFrom n w) i e l c o)
       at-new c none h = stays h
       at-new c (some m) h = λ x. fire 3 i (suc i + res-length c.before x)
@@ -200,7 +203,7 @@ module _ {A B : Type 0} (φ : A → B) where
           had-close (nextHFrom n w) i (re e) (res l) (re-cut o) ≡ re-done (had-close (nextHFrom n w) i e l o)
       at-close none h = stays h
       at-close (some c) h = ap
-          (had-new (nextHFrom n w) i (re e) (res l) (record { before = res c.before; here = re c.here; after = res c.after }))
+          (had-new (nextHFrom n w) i (re e) (res l) (re-at c))
           (change3-re e c.before c.here)
           ∙ at-new c (change3 e c.before c.here) h
 
@@ -236,7 +239,7 @@ module _ {A B : Type 0} (φ : A → B) where
 
       at-walk : (c : Cut A) (w : Walk) → Ih →
           com-walk (commutingFrom n) i (re e) (res l)
-          (record { before = res c.before; here = re c.here; after = res c.after }) w ≡ re-done
+          (re-at c) w ≡ re-done
           (com-walk (commutingFrom n) i e l c w)
       at-walk c w h = (λ x. walked w (fire 2 i (suc i + res-length c.before x)
           ((ap (commutingFrom n i) (res-append c.before c.after) ∙ h i (c .before ++ c .after)) x)) (stays h x))
@@ -246,7 +249,7 @@ module _ {A B : Type 0} (φ : A → B) where
           com-with (commutingFrom n) i (re e) (res l) (re-cut o) ≡ re-done (com-with (commutingFrom n) i e l o)
       at-cut none h = stays h
       at-cut (some c) h = ap
-          (com-walk (commutingFrom n) i (re e) (res l) (record { before = res c.before; here = re c.here; after = res c.after }))
+          (com-walk (commutingFrom n) i (re e) (res l) (re-at c))
           (walk-re (e .gate) c.before)
           ∙ at-walk c (walkPast (e .gate) c.before) h
 
@@ -337,7 +340,7 @@ module _ {A B : Type 0} (φ : A → B) where
       at-join a b (some m) = ap some (ap (λ x. res a ++ x) (res-append m b) ∙ res-append a (m ++ b))
 
       at-last : (c : Cut A) (o : Option (Cut A)) →
-          to-last kinds s.kind (record { before = res c.before; here = re c.here; after = res c.after }) (re-cut o) ≡ re-list
+          to-last kinds s.kind (re-at c) (re-cut o) ≡ re-list
           (to-last kinds s.kind c o)
       at-last c none = refl
       at-last c (some d) = ap (joined (res c.before) (res d.after)) (change-re kinds s.kind c.here d.before d.here)
@@ -345,7 +348,7 @@ module _ {A B : Type 0} (φ : A → B) where
 
       at-first : (o : Option (Cut A)) → to-first kinds s.kind n (re-cut o) ≡ re-list (to-first kinds s.kind n o)
       at-first none = refl
-      at-first (some c) = ap (to-last kinds s.kind (record { before = res c.before; here = re c.here; after = res c.after }))
+      at-first (some c) = ap (to-last kinds s.kind (re-at c))
           (cut-at-re n c.after) ∙ at-last c (cutAt n c.after)
 
   abbrev pub re-replayed : Replayed A → Replayed B

@@ -14,7 +14,8 @@ use Rattle.rules.specs.Steps.{Cell, Step, change1, change2, change3, cha
 use Rattle.rules.specs.Journal.{stepAt, stepsFrom, stepsOf, stepBytes, journalBytes, replayed, replay, replayBytes}
 use Rattle.rules.specs.Loop.{pass}
 use Rattle.rules.proofs.Replays.{Leads, pass-replays}
-use Rattle.rules.proofs.Acts.{none-not-some, act-parts, along}
+use Rattle.rules.proofs.EqualLaws.{none-not-some}
+use Rattle.rules.proofs.Acts.{act-parts, along}
 use Rattle.rules.proofs.Falls.{act-less}
 
 -- ------------------------------------------------------------ words behind other bytes

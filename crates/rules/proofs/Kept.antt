@@ -1,10 +1,9 @@
 -- What holds of every gate of a list and does not turn on the kind of a gate on one wire, a step keeps: so validity.
 use mathlib.Core.Path.{_≡_, refl, sym, _∙_, ap, subst}
-use mathlib.Core.Bool.{Bool, true, false, not, cond, _&&_}
+use mathlib.Core.Bool.{Bool, false≢true, true, false, not, cond, _&&_}
 use mathlib.Core.List.{List, [], _∷_, _++_}
 use mathlib.Core.Option.{Option, some, none}
 use Prim.Native.Nat.{ℕ}
-use native.Mathlib.Omega.{arith}
 use lib.Dec.{eqb}
 use Rattle.gates.specs.declared.Wire.{Wire}
 use Rattle.gates.specs.declared.Bit.{Bit}
@@ -20,10 +19,10 @@ use Rattle.rules.specs.Journal.{replayed, replay}
 use Rattle.rules.specs.Sweeps.{Sweep, pairSweep, commutingSweep, hadamardSweep}
 use Rattle.rules.specs.Loop.{pass}
 use Rattle.rules.proofs.Names.{if, rewritten}
-use Rattle.rules.proofs.EqualLaws.{and-left}
+use Rattle.rules.proofs.EqualLaws.{and-left, none-not-some}
 use Rattle.rules.proofs.Between.{is-h, Fits, Fit, PutIn, rewrite-fit}
 use Rattle.rules.proofs.Replays.{Leads, leads, Replays, pair-replays, hadamard-replays, commuting-replays, pass-replays}
-use Rattle.rules.proofs.Acts.{none-not-some, if-true, if-h-true, act-parts, along}
+use Rattle.rules.proofs.Acts.{if-true, if-h-true, act-parts, along}
 
 module _ (P : Gate → Type 0) where
   -- With an h, the other gates that a step puts on its wire.
@@ -128,7 +127,7 @@ module _ (P : Gate → Type 0) where
 
 no-measure : (g : Gate) → eqb (kindOf g) 12 ≡ false → (w : Wire) (b : Bit) → g ≡ Measure w b → ⊥
 unfolding recordOf
-no-measure g h w b e = let z : false ≡ true = sym h ∙ ap (λ x. eqb (kindOf x) 12) e in let y : _≡_ {A = ℕ} 0 1 = cc in omega arith
+no-measure g h w b e = false≢true (sym h ∙ ap (λ x. eqb (kindOf x) 12) e)
 
 -- Another gate that is no measure on the wire of a valid h.
 on-its-wire : (n bits : ℕ) (v : Wire) (g : Gate) → wiresOf g ≡ wiresOf (H v) → eqb (kindOf g) 12 ≡ false → Valid n bits (H v) →

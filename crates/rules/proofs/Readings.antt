@@ -1,10 +1,9 @@
 -- The measures and resets of a list stay, in their order.
 use mathlib.Core.Path.{_≡_, refl, sym, _∙_, ap, ap₂}
-use mathlib.Core.Bool.{Bool, true, false, not, cond, _||_, _&&_}
+use mathlib.Core.Bool.{Bool, false≢true, true, false, not, cond, _||_, _&&_}
 use mathlib.Core.List.{List, [], _∷_, _++_, append-nil, append-assoc}
 use mathlib.Core.Option.{Option, some, none}
 use Prim.Native.Nat.{ℕ}
-use native.Mathlib.Omega.{arith}
 use lib.Dec.{eqb}
 use borrow.Author.Tests.{eqb-true, not-true}
 use Rattle.gates.specs.declared.Gate.{Gate}
@@ -18,11 +17,11 @@ use Rattle.rules.specs.Journal.{replayed, replay}
 use Rattle.rules.specs.Sweeps.{Sweep, pairSweep, commutingSweep, hadamardSweep}
 use Rattle.rules.specs.Loop.{pass}
 use Rattle.rules.proofs.Names.{if, rewritten}
-use Rattle.rules.proofs.EqualLaws.{and-left, and-right, equal-parts, cancels-equal}
+use Rattle.rules.proofs.EqualLaws.{and-left, and-right, equal-parts, cancels-equal, none-not-some}
 use Rattle.rules.proofs.Cuts.{all-then}
 use Rattle.rules.proofs.Between.{Fits, Fit, rewrite-fit, inside, isReading, inside-no-reading, between-inside, track-every}
 use Rattle.rules.proofs.Replays.{Leads, leads, Replays, pair-replays, hadamard-replays, commuting-replays, pass-replays}
-use Rattle.rules.proofs.Acts.{whole, none-not-some, if-true, if-h-true, act-parts, along}
+use Rattle.rules.proofs.Acts.{whole, if-true, if-h-true, act-parts, along}
 
 -- ------------------------------------------------------------ which gates go
 
@@ -34,9 +33,6 @@ pub seven-unread : Unread seven
 unfolding has
 seven-unread = (refl, refl)
 
-true-not-false : true ≡ false → ⊥
-true-not-false h = let z : _≡_ {A = ℕ} 0 1 = cc in omega arith
-
 of-unread : (kinds : List ℕ) → Unread kinds → (k : ℕ) → has k kinds ≡ true → has k (12 ∷ 13 ∷ []) ≡ false
 unfolding has
 of-unread kinds u k h = ap₂ (λ a b. a || (b || false)) (other 12 (u .0)) (other 13 (u .1))
@@ -45,7 +41,7 @@ of-unread kinds u k h = ap₂ (λ a b. a || (b || false)) (other 12 (u .0)) (oth
     other n v = go (eqb k n) refl
       where
         go : (b : Bool) → eqb k n ≡ b → b ≡ false
-        go true e = absurd (true-not-false (sym h ∙ ap (λ x. has x kinds) (eqb-true k n e) ∙ v))
+        go true e = absurd (false≢true (sym v ∙ ap (λ x. has x kinds) (sym (eqb-true k n e)) ∙ h))
         go false e = refl
 
 h-no-reading : (g : Gate) → isH g ≡ true → isReading g ≡ false

@@ -18,14 +18,14 @@ use Rattle.rules.specs.Steps.{Cell, Step, Cut, onto, firstOf, all, track
 use Rattle.rules.specs.Sweeps.{Done, Walk, reached, blocked, short, cut, pairsFrom, pairSweep, walkPast, commutingFrom, commutingSweep, hadamardSweep}
 use Rattle.rules.specs.Loop.{pass}
 use Rattle.rules.proofs.Names.{rewritten, pair-if, pair-with, com-walk, com-with, com-open}
-use Rattle.rules.proofs.EqualLaws.{and-left, and-right, meets-itself, equal-share, cancels-equal}
+use Rattle.rules.proofs.EqualLaws.{and-left, and-right, meets-itself, equal-share, cancels-equal, none-not-some}
 use Rattle.rules.proofs.Cuts.{all-then, all-reverse, cut-here}
 use Rattle.rules.proofs.Walks.{Outcome, walk-past-is}
 use Rattle.rules.proofs.Between.{inside, inside-no-h, between-inside, track-every}
 use Rattle.rules.proofs.NextH.{had-new, had-close, had-open, nextHFrom, nextHSweep}
 use Rattle.rules.proofs.HadamardForm.{hadamard-next-h}
 use Rattle.rules.proofs.Replays.{next-h-replays}
-use Rattle.rules.proofs.Acts.{none-not-some, if-true, if-h-true, act-parts}
+use Rattle.rules.proofs.Acts.{if-true, if-h-true, act-parts}
 use Rattle.rules.proofs.Ends.{Idle, Quiet, followed-idle, nothing-fires}
 use Rattle.rules.proofs.Kept.{all-back, ValidList, pass-valid}
 

@@ -37,7 +37,7 @@ pub data Replayed (A : Type 0) : Type 0 where
   refusedAt : ℕ → Replayed A
 
 module _ {A : Type 0} (kinds : List ℕ) where
-  -- The steps from an index on. "14: a step isn't allowed; place: step".
+  -- The steps from an index on. Number 14, "a step isn't allowed (checker)", has the step as its place.
   unfoldable pub replayFrom : ℕ → List Step → List (Cell A) → Replayed A
   replayFrom i [] l = replayed l
   replayFrom i (s ∷ ss) l = try (act kinds s l) (refusedAt i) (replayFrom (suc i) ss)
