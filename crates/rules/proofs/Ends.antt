@@ -7,7 +7,7 @@ use lib.ListN.{length}
 use Rattle.rules.specs.Steps.{Cell, Step}
 use Rattle.rules.specs.Journal.{replayFrom}
 use Rattle.rules.specs.Sweeps.{Sweep, pairSweep, commutingSweep, followed, hadamardSweep}
-use Rattle.rules.specs.Loop.{againIf, repeat, size, repeated, round, pass}
+use Rattle.rules.specs.Loop.{againIf, repeat, size, repeated, round, pass, Idle, Quiet}
 use Rattle.rules.proofs.Replays.{Leads, Replays, replayed-same, repeated-replays, hadamard-replays, commuting-replays, round-replays}
 use Rattle.rules.proofs.Falls.{steps-lower}
 
@@ -18,17 +18,6 @@ nil-left (x ∷ s) t h = cc
 nil-right : (s t : List Step) → s ++ t ≡ [] → t ≡ []
 nil-right [] t h = h
 nil-right (x ∷ s) t h = cc
-
-module _ {A : Type 0} where
-  -- A sweep does not fire on a list.
-  abbrev pub Idle : Sweep A → List (Cell A) → Type 0
-  Idle f l = (f l) .steps ≡ []
-
-  -- No sweep fires on a list, over n wires.
-  pub record Quiet (kinds : List ℕ) (n : ℕ) (l : List (Cell A)) : Type 0 where
-    pub pairs : Idle (pairSweep kinds) l
-    pub hadamards : Idle (hadamardSweep n) l
-    pub commutings : Idle commutingSweep l
 
 module _ {A : Type 0} (kinds : List ℕ) where
   -- And so leaves it.

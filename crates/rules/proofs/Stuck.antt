@@ -14,9 +14,9 @@ use Rattle.gates.specs.Records.{isH}
 use Rattle.rules.specs.Equal.{equal, cancels, isPair}
 use Rattle.rules.specs.Runs.{Rewrite, isHOn, rewriteOf}
 use Rattle.rules.specs.MayPass.{mayPass}
-use Rattle.rules.specs.Steps.{Cell, Step, Cut, onto, firstOf, all, track, change1, change2, change3, change, act}
+use Rattle.rules.specs.Steps.{Cell, Step, Cut, onto, firstOf, all, track, change1, change2, change3, change, act, ValidList}
 use Rattle.rules.specs.Sweeps.{Done, Walk, reached, blocked, short, cut, pairsFrom, pairSweep, walkPast, commutingFrom, commutingSweep, hadamardSweep}
-use Rattle.rules.specs.Loop.{pass}
+use Rattle.rules.specs.Loop.{pass, Idle, Quiet}
 use Rattle.rules.proofs.Names.{rewritten, pair-if, pair-with, com-walk, com-with, com-open}
 use Rattle.rules.proofs.EqualLaws.{and-left, and-right, meets-itself, equal-share, cancels-equal, none-not-some}
 use Rattle.rules.proofs.Cuts.{all-then, all-reverse, cut-here}
@@ -26,8 +26,8 @@ use Rattle.rules.proofs.NextH.{had-new, had-close, had-open, nextHFrom,
 use Rattle.rules.proofs.HadamardForm.{hadamard-next-h}
 use Rattle.rules.proofs.Replays.{next-h-replays}
 use Rattle.rules.proofs.Acts.{if-true, if-h-true, act-parts}
-use Rattle.rules.proofs.Ends.{Idle, Quiet, followed-idle, nothing-fires}
-use Rattle.rules.proofs.Kept.{all-back, ValidList, pass-valid}
+use Rattle.rules.proofs.Ends.{followed-idle, nothing-fires}
+use Rattle.rules.proofs.Kept.{all-back, pass-valid}
 
 no-step : (s : Step) (l : List Step) → s ∷ l ≡ [] → ⊥
 no-step s l q = let z : _≡_ {A = ℕ} 0 1 = cc in omega arith

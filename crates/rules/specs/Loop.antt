@@ -1,4 +1,5 @@
 -- A sweep again until nothing changes, and the loop. Document 01, "Loop".
+use mathlib.Core.Path.{_≡_}
 use mathlib.Core.Bool.{cond}
 use mathlib.Core.List.{List, [], _∷_}
 use Prim.Native.Nat.{ℕ, zero, suc, _+_}
@@ -38,3 +39,14 @@ module _ {A : Type 0} (kinds : List ℕ) where
   -- "pair sweep; then Hadamard, commuting, pair, until a round in which none fires", on n wires
   unfoldable pub pass : ℕ → Sweep A
   pass n = followed (pairSweep kinds) (repeated (round n))
+
+module _ {A : Type 0} where
+  -- A sweep does not fire on a list.
+  abbrev pub Idle : Sweep A → List (Cell A) → Type 0
+  Idle f l = (f l) .steps ≡ []
+
+  -- "no sweep fires" on a list, over n wires
+  pub record Quiet (kinds : List ℕ) (n : ℕ) (l : List (Cell A)) : Type 0 where
+    pub pairs : Idle (pairSweep kinds) l
+    pub hadamards : Idle (hadamardSweep n) l
+    pub commutings : Idle commutingSweep l
