@@ -1,0 +1,3 @@
+-- What is promised of a list, a journal and an answer.
+pub mod Turns
+pub mod Demand

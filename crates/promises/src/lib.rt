@@ -1,0 +1,1 @@
+// What an accepted journal keeps: demand 3 as one statement in specs/, its proof in proofs/, no code.
