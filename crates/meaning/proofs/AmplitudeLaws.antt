@@ -22,6 +22,11 @@ Four-set x y p q = λ i j. record {
 zeros : Four
 zeros = four (pos 0) (pos 0) (pos 0) (pos 0)
 
+-- Half a turn is the opposite: w⁴ = -1.
+w-four : (x : Four) → timesW (timesW (timesW (timesW x))) ≡ minus x
+unfolding timesW minus
+w-four x = refl
+
 plus-comm : (x y : Four) → plus x y ≡ plus y x
 unfolding plus
 plus-comm x y = four-path _ _ (+ℤ-comm x.n0 y.n0) (+ℤ-comm x.n1 y.n1) (+ℤ-comm x.n2 y.n2) (+ℤ-comm x.n3 y.n3)
@@ -41,11 +46,6 @@ w-plus x y = four-path _ _ (negℤ-+ℤ x.n3 y.n3) refl refl refl
 w-none : timesW zeros ≡ zeros
 unfolding timesW zeros
 w-none = refl
-
--- Half a turn is the opposite: w⁴ = -1.
-w-four : (x : Four) → timesW (timesW (timesW (timesW x))) ≡ minus x
-unfolding timesW minus
-w-four x = refl
 
 plus-minus : (x : Four) → plus x (minus x) ≡ zeros
 unfolding plus minus zeros

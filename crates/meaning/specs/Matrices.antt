@@ -1,11 +1,13 @@
--- The matrices that OpenQASM 3 fixes: its built-in gates, its modifiers, and the gates of `stdgates.inc`.
+-- The matrices that OpenQASM 3 fixes: its built-in gates, its modifiers, and the gates of `stdgates.inc`. Quoted are the
+-- sentences of the specification, "Built-in gates" and "Quantum gate modifiers", and the lines of `stdgates.inc`.
 use mathlib.Core.Bool.{Bool, true, false, not, cond, _&&_}
 use mathlib.Core.List.{List, [], _∷_}
 use Prim.Native.Nat.{ℕ, _+_, _*_}
 
 -- ------------------------------------------------------------ matrices
 
--- w to the `turns`, over √2 to the `roots`: e^(iθ) for an angle of k eighth turns is w^k, i is w², -1 is w⁴.
+-- w to the `turns`, over √2 to the `roots`. An angle is a number of eighth turns, π is 4; e^(iθ) is w to the θ, i is w², -1 is
+-- w⁴.
 pub record Factor : Type 0 where
   pub turns : ℕ
   pub roots : ℕ
@@ -40,7 +42,7 @@ sameBits (a ∷ l) (b ∷ m) = sameBit a b && sameBits l m
 
 -- ------------------------------------------------------------ built-in gates
 
--- "U(θ, φ, λ) := ½ [[1 + e^(iθ), -i e^(iλ) (1 - e^(iθ))], [i e^(iφ) (1 - e^(iθ)), e^(i(φ+λ)) (1 + e^(iθ))]]"
+-- "U(θ, φ, λ) := ½ [[1 + e^(iθ), -i e^(iλ) (1 - e^(iθ))], [i e^(iφ) (1 - e^(iθ)), e^(i(φ+λ)) (1 + e^(iθ))]]", λ as l
 abbrev pub entryU : ℕ → ℕ → ℕ → Bool → Bool → List Factor
 entryU θ φ l false false = factor 0 2 ∷ factor θ 2 ∷ []
 entryU θ φ l false true = factor (6 + l) 2 ∷ factor (6 + l + 4 + θ) 2 ∷ []
@@ -50,7 +52,7 @@ entryU θ φ l true true = factor (φ + l) 2 ∷ factor (φ + l + θ) 2 ∷ []
 unfoldable pub U : ℕ → ℕ → ℕ → Matrix
 U θ φ l after before = entryU θ φ l (firstBit after) (firstBit before)
 
--- "gphase(γ) ... adds a global phase of e^(iγ)": alone, on no wire.
+-- "gphase(γ); adds a global phase of e^(iγ) to the scope containing the instruction": alone, on no wire.
 unfoldable pub gphase : ℕ → Matrix
 gphase k after before = factor k 0 ∷ []
 
@@ -65,7 +67,7 @@ withPhase k M after before = turnedAll k (M after before)
 
 -- ------------------------------------------------------------ modifiers
 
--- "ctrl @: if the control bit is 0, nothing happens to the target bit. If the control bit is 1, U acts on the target bit."
+-- `ctrl @`: "If the control bit is 0, nothing happens to the target bit. If the control bit is 1, U acts on the target bit."
 unfoldable pub ctrl : Matrix → Matrix
 unfolding sameBits
 ctrl M (false ∷ after) (false ∷ before) = cond (sameBits after before) one []
@@ -79,7 +81,7 @@ unfoldable pub conjugated : List Factor → List Factor
 conjugated [] = []
 conjugated (e ∷ l) = factor (7 * e .turns) e.roots ∷ conjugated l
 
--- "inv @ replaces its gate argument U with its inverse U†": the entry across, with w⁷ for w.
+-- `inv @`: "replaces its gate argument U with its inverse U†", the entry across, with w⁷ for w.
 unfoldable pub inv : Matrix → Matrix
 unfolding conjugated
 inv M after before = conjugated (M before after)
@@ -106,7 +108,7 @@ h = withPhase 7 (U 2 0 4)
 abbrev pub z : Matrix
 z = p 4
 
--- "gate s a { pow(1/2) @ z a; }": the root whose angle is half of π.
+-- "gate s a { pow(1/2) @ z a; }": of the roots of z that which halves the angle π.
 abbrev pub s : Matrix
 s = p 2
 

@@ -81,6 +81,7 @@ pub record Config (A : Type 0) : Type 0 where
   pub bits : ℕ → Bool
   pub state : Setting → A
 
+-- The row after its first bit. A row that is too short is read as if zeros followed.
 abbrev pub rest : List Bool → List Bool
 rest [] = []
 rest (o ∷ r) = r

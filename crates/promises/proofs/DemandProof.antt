@@ -5,7 +5,8 @@ use Prim.Native.Nat.{ℕ}
 use Rattle.rules.specs.Equal.{seven}
 use Rattle.rules.specs.Steps.{Cell, Step, gatesOf, AllOf, ValidList}
 use Rattle.rules.specs.Journal.{replayed, stepsOf, replay}
-use Rattle.rules.proofs.Replays.{leads}
+use Rattle.rules.specs.Loop.{pass}
+use Rattle.rules.proofs.Replays.{leads, replayed-pass}
 use Rattle.rules.proofs.JournalBytes.{replayed-bytes}
 use Rattle.rules.proofs.Falls.{no-longer, no-more-h}
 use Rattle.rules.proofs.Ends.{nothing-fires}
@@ -55,6 +56,12 @@ module _ (kinds : List ℕ) (si : SelfInverse kinds) {A : Type 0} where
     no-longer = no-longer kinds ss l m h;
     no-more-h = no-more-h kinds ss l m h;
   }
+
+  -- So the pass keeps them, by the turns of its own steps.
+  pub pass-keeps : (wires bits : ℕ) (l : List (Cell A)) → ValidList wires bits l →
+      Keeps kinds ((pass kinds wires l) .steps) l ((pass kinds wires l) .list)
+  pass-keeps wires bits l v =
+      keeps wires bits ((pass kinds wires l) .steps) l ((pass kinds wires l) .list) v (replayed-pass kinds wires l)
 
 -- Over every set of cancelling kinds that undo themselves.
 pub demand-3-over : (kinds : List ℕ) → SelfInverse kinds → (A : Type 0) → Demand3 kinds A

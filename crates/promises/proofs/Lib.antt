@@ -8,3 +8,4 @@ pub mod Rewrites
 pub mod TurnLaws
 pub mod Keeps
 pub mod DemandProof
+pub mod SmallTurns
