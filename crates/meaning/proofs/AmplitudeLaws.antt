@@ -155,7 +155,8 @@ at-add : (n : ℕ) (x y : Amplitude) → x .power ≤ n → y .power ≤ n → a
 unfolding at sumOfTwo
 at-add n x y p q = let m : ℕ = max x.power y.power in
     roots-plus (n - m) (roots (m - x.power) x.numbers) (roots (m - y.power) y.numbers)
-    ∙ ap₂ plus (roots-join (n - m) (m - x.power) (n - x.power) x.numbers (omega arith)) (roots-join (n - m) (m - y.power) (n - y.power) y.numbers (omega arith))
+    ∙ ap₂ plus (roots-join (n - m) (m - x.power) (n - x.power) x.numbers (omega arith))
+    (roots-join (n - m) (m - y.power) (n - y.power) y.numbers (omega arith))
 
 at-turn : (n : ℕ) (x : Amplitude) → at n (turn x) ≡ timesW (at n x)
 unfolding at
@@ -268,7 +269,10 @@ turn-four x = let n : ℕ = x .power in let e : (times turn 4 x) .power ≡ n = 
 
 pub root-back : (x : Amplitude) → overRoot (sumOfTwo (turn x) (times turn 7 x)) ≈ x
 unfolding sumOfTwo times at timesRoot
-root-back x = let n : ℕ = x .power in let e : (times turn 7 x) .power ≡ n = turns-power 7 x in let d : (turn x) .power ≡ n = turns-power 1 x in
+root-back x =
+    let n : ℕ = x .power in
+    let e : (times turn 7 x) .power ≡ n = turns-power 7 x in
+    let d : (turn x) .power ≡ n = turns-power 1 x in
     same-at (suc n) (overRoot (sumOfTwo (turn x) (times turn 7 x))) x (omega arith) (omega arith) (
     at-root n (sumOfTwo (turn x) (times turn 7 x))
     ∙ at-add n (turn x) (times turn 7 x) (omega arith) (omega arith)

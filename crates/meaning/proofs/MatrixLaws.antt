@@ -27,7 +27,9 @@ rowTerms M out (σ ∷ l) = entryTerms σ (M out σ) ++ rowTerms M out l
 unfoldable pub matches : List ℕ → ℕ → Operator → Matrix → Bool
 unfolding fitting allWithin within everywhere sameSum settle putIn opposite sameBits raiseAll raise opposed
     paths gather scaled flipAll flip bitsOf bitAt entryTerms rowTerms allBits
-matches ws k q M = fitting (length ws) (q ∷ []) && everywhere (length ws) (λ σ. sameSum k (paths (q ∷ []) σ) (rowTerms M σ (allBits (length ws))))
+matches ws k q M =
+    fitting (length ws) (q ∷ []) &&
+    everywhere (length ws) (λ σ. sameSum k (paths (q ∷ []) σ) (rowTerms M σ (allBits (length ws))))
 
 module _ {A : Type 0} (O : Ops A) (L : Laws O) (ws : List ℕ) (ψ : Setting → A) (u : Setting) where
   entry-is : (σ : List Bool) (l : List Factor) →

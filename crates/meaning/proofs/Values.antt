@@ -34,7 +34,8 @@ same-value x y e = Quotient·exact Same ≈-prop e
 -- ------------------------------------------------------------ the operations on values, and their laws
 
 addV : Value → Value → Value
-addV = Quotient·lift₂ Same Same (Quotient-set Same) (λ x y. value (Amplitudes .add x y)) (λ x y x′ y′ e f. value-same _ _ (add-same x y x′ y′ e f))
+addV = Quotient·lift₂ Same Same (Quotient-set Same) (λ x y. value (Amplitudes .add x y))
+    (λ x y x′ y′ e f. value-same _ _ (add-same x y x′ y′ e f))
 
 turnV : Value → Value
 turnV = Quotient·lift Same (Quotient-set Same) (λ x. value (Amplitudes .turn x)) (λ x y e. value-same _ _ (turn-same x y e))
@@ -45,16 +46,28 @@ rootV = Quotient·lift Same (Quotient-set Same) (λ x. value (Amplitudes .overRo
 pub Values : Ops Value
 Values = record { none = value (Amplitudes .none); add = addV; turn = turnV; overRoot = rootV }
 
+-- What holds of the values of two amplitudes, or of three, holds of any values.
+of-two : (P : Value → Value → Type 0) → ((q r : Value) → IsProp (P q r)) → ((x y : Amplitude) → P (value x) (value y)) →
+    (q r : Value) → P q r
+of-two P p h q r = Quotient·inductionOn₂ Same Same {motive = P} p q r h
+
+of-three : (P : Value → Value → Value → Type 0) → ((q r v : Value) → IsProp (P q r v)) →
+    ((x y z : Amplitude) → P (value x) (value y) (value z)) → (q r v : Value) → P q r v
+of-three P p h q r v = Quotient·inductionOn₃ Same Same Same {motive = P} p q r v h
+
 pub values-laws : Laws Values
 unfolding Values addV turnV rootV Quotient·lift Quotient·lift₂ times
 values-laws = record {
   add-none = Quotient·ind Same (λ q. set _ _) (λ x. value-same _ _ (L.add-none x));
-  add-comm = λ q r. Quotient·inductionOn₂ Same Same {motive = λ q r. addV q r ≡ addV r q} (λ q r. set _ _) q r (λ x y. value-same _ _ (L.add-comm x y));
-  add-assoc = λ q r v. Quotient·inductionOn₃ Same Same Same {motive = λ q r v. addV (addV q r) v ≡ addV q (addV r v)} (λ q r v. set _ _) q r v (λ x y z. value-same _ _ (L.add-assoc x y z));
+  add-comm = of-two (λ q r. addV q r ≡ addV r q) (λ q r. set _ _) λ x y. value-same _ _ (L.add-comm x y);
+  add-assoc = of-three (λ q r v. addV (addV q r) v ≡ addV q (addV r v)) (λ q r v. set _ _)
+      λ x y z. value-same _ _ (L.add-assoc x y z);
   turn-none = value-same _ _ L.turn-none;
-  turn-add = λ q r. Quotient·inductionOn₂ Same Same {motive = λ q r. turnV (addV q r) ≡ addV (turnV q) (turnV r)} (λ q r. set _ _) q r (λ x y. value-same _ _ (L.turn-add x y));
+  turn-add = of-two (λ q r. turnV (addV q r) ≡ addV (turnV q) (turnV r)) (λ q r. set _ _)
+      λ x y. value-same _ _ (L.turn-add x y);
   root-none = value-same _ _ L.overRoot-none;
-  root-add = λ q r. Quotient·inductionOn₂ Same Same {motive = λ q r. rootV (addV q r) ≡ addV (rootV q) (rootV r)} (λ q r. set _ _) q r (λ x y. value-same _ _ (L.overRoot-add x y));
+  root-add = of-two (λ q r. rootV (addV q r) ≡ addV (rootV q) (rootV r)) (λ q r. set _ _)
+      λ x y. value-same _ _ (L.overRoot-add x y);
   root-turn = Quotient·ind Same (λ q. set _ _) (λ x. value-same _ _ (L.overRoot-turn x));
   turn-four = Quotient·ind Same (λ q. set _ _) (λ x. value-same _ _ (L.turn-four x));
   root-back = Quotient·ind Same (λ q. set _ _) (λ x. value-same _ _ (L.root-back x));

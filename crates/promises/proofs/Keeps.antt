@@ -111,8 +111,9 @@ module _ {B : Type 0} (O : Ops B) (L : Laws O) {A : Type 0} (kinds : List ℕ) (
           SameCells (turnsAt k e m) (whole e m f) n
       go true r b s c t h = unturned-if 1 refl r (cancels kinds (e .gate) (f .gate) && all (λ g. not (shares (f .gate) g)) m) h
           λ y. let i = and-left (cancels kinds (e .gate) (f .gate)) _ y in
-          pair-same e m f (si (kindOf (e .gate)) (cancels-kind kinds (e .gate) (f .gate) i)) (cancels-equal kinds (e .gate) (f .gate) i) p q
-          (off-all (e .gate) (f .gate) m (cancels-equal kinds (e .gate) (f .gate) i) (and-right (cancels kinds (e .gate) (f .gate)) _ y))
+          let j = cancels-equal kinds (e .gate) (f .gate) i in
+          pair-same e m f (si (kindOf (e .gate)) (cancels-kind kinds (e .gate) (f .gate) i)) j p q
+          (off-all (e .gate) (f .gate) m j (and-right (cancels kinds (e .gate) (f .gate)) _ y))
       go false r true s c t h =
           unturned-if 2 refl s (isPair (e .gate) && (equal (e .gate) (f .gate) && all (mayPass (e .gate)) m)) h
           λ y. let i = and-right (isPair (e .gate)) _ y in

@@ -170,8 +170,9 @@ is-x (Cswap c a b) h = absurd (false≢true h)
 lone-x : (w : ℕ) (t : List Gate) → loneX t ≡ true → All (λ g. touches w g ≡ true) t → t ≡ X (wire w) ∷ []
 lone-x w [] h k = absurd (false≢true h)
 lone-x w (g ∷ []) h k =
-    let e : g ≡ X (wire (firstOf (wiresOf g))) = is-x g h in
-    ap (λ x. x ∷ []) (e ∙ ap (λ v. X (wire v)) (on-wire w g (firstOf (wiresOf g)) (ap wiresOf e ∙ x-only (firstOf (wiresOf g)) .alone) (k .0)))
+    let v = firstOf (wiresOf g) in
+    let e : g ≡ X (wire v) = is-x g h in
+    ap (λ x. x ∷ []) (e ∙ ap (λ v. X (wire v)) (on-wire w g v (ap wiresOf e ∙ x-only v .alone) (k .0)))
 lone-x w (g ∷ k ∷ t) h q = absurd (false≢true h)
 
 busy-of : (t : List Gate) (k : ℕ) → sumOf t ≡ some k → eqb (k % 8) 0 ≡ false → busy t ≡ true
