@@ -197,7 +197,7 @@ module _ {A : Type 0} (O : Ops A) (L : Laws O) where
   unfolding word place picks apply sum scale times toggles bitsAt
   everything-is ws k l ψ u = add-none-right O L _
 
-  -- What the test says, as operators; and that the words are lists of proper gates.
+  -- What the test says, as operators; then as the definition has it.
   drive-same : (r : Identity) (ws : List ℕ) → So (testedOn (length ws) r) → Distinct ws → (c : Config A) →
       drive O (map (placed ws) r.left) c ≡ turned O r.turns (drive O (map (placed ws) r.right) c)
   unfolding testedOn turned word
