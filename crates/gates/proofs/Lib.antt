@@ -1,4 +1,5 @@
 -- Laws of gates and records.
+pub mod Joined
 pub mod Table
 pub mod KindLaws
 pub mod WordLaws

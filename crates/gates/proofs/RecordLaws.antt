@@ -8,7 +8,8 @@ use native.Mathlib.Omega.{arith}
 use lib.Dec.{T, eqb, leb, leb→le}
 use lib.ListN.{drop}
 use borrow.Author.Tests.{ne-eqb}
-use Rattle.gates.proofs.Table.{at, and-left, and-right}
+use Rattle.gates.proofs.Joined.{and-both}
+use Rattle.gates.proofs.Table.{at}
 use Rattle.gates.proofs.KindLaws.{named, unknown-named}
 use Rattle.gates.specs.declared.Gate.{Gate}
 use Rattle.gates.specs.declared.kinds.Row.{Row}
@@ -27,7 +28,7 @@ unfolding shapeOf shapes
 operands-small kind h =
     let n = wiresIn (shapeOf kind) in
     let t = at oneToThree shapes unknown tt kind h in
-    (leb→le 1 n (and-left (leb 1 n) (leb n 3) t), leb→le n 3 (and-right (leb 1 n) (leb n 3) t))
+    (leb→le 1 n (and-both (leb 1 n) (leb n 3) t .0), leb→le n 3 (and-both (leb 1 n) (leb n 3) t .1))
 
 pub row-small : (row : Row) (kind : ℕ) → row ≡ rowOf kind → kind < 27 → (1 ≤ row .operands) × (row .operands ≤ 3)
 row-small row kind e h = rw e (operands-small kind h)

@@ -1,6 +1,6 @@
 -- Decoding and encoding undo each other, on gates, on records and on bytes.
 use mathlib.Core.Path.{_≡_, refl, ap, subst, sym, _∙_}
-use mathlib.Core.Bool.{Bool, true, false, _&&_}
+use mathlib.Core.Bool.{Bool, true, false}
 use mathlib.Core.List.{List, [], _∷_}
 use Prim.Native.Nat.{ℕ, zero, suc, _+_, _^_, _≤_, _<_}
 use native.Mathlib.Nat.{add-zero, zero-add, add-suc, suc-add}
@@ -8,6 +8,7 @@ use native.Mathlib.Omega.{arith}
 use lib.Dec.{eqb}
 use lib.ListN.{length, getD, take, drop}
 use borrow.Author.Tests.{eqb-true}
+use Rattle.gates.proofs.Joined.{and-left, and-right}
 use Rattle.gates.proofs.KindLaws.{named}
 use Rattle.gates.proofs.WordLaws.{word-of-bytes, first-byte, padding-of-head, head-word, word-taken, word-before}
 use Rattle.gates.specs.declared.Wire.{Wire}
@@ -19,7 +20,7 @@ use Rattle.gates.specs.declared.records.Decoded.{Decoded}
 use Rattle.gates.specs.Kinds.{Shape, on1, on2, on3, onBit, angled, unknown, shapes, shapeOf, wiresIn}
 use Rattle.gates.specs.Gates.{wire, bit, wiresOf}
 use Rattle.gates.specs.Words.{byteAt, wordAt, bytesOf}
-use Rattle.gates.specs.Records.{recordFrom, usedOf, unusedOf, allZero, decodedAs, whenClean, namedBy, gateOf, withWords, recordOf, recordBytes}
+use Rattle.gates.specs.Records.{recordFrom, usedOf, unusedOf, allZero, decodedAs, whenClean, namedBy, gateOf, withWords, recordOf, kindOf, recordBytes}
 
 -- ------------------------------------------------------------ what the table says of each kind
 
@@ -95,13 +96,9 @@ fit k = subst (λ (m : ℕ). Fit m (getD shapes k unknown)) (zero-add k) (fit-at
 abbrev words : Record → List ℕ
 words r = r .first ∷ r .second ∷ r .third ∷ []
 
-and-both : (a b : Bool) → (a && b) ≡ true → (a ≡ true) × (b ≡ true)
-and-both true b e = (refl, e)
-and-both false b e = ((cc), (cc))
-
 zero-first : (x : ℕ) (xs : List ℕ) → allZero (x ∷ xs) ≡ true → (x ≡ 0) × (allZero xs ≡ true)
 unfolding allZero
-zero-first x xs e = let both = and-both (eqb x 0) (allZero xs) e in (eqb-true x 0 (both .0), both .1)
+zero-first x xs e = (eqb-true x 0 (and-left (eqb x 0) (allZero xs) e), and-right (eqb x 0) (allZero xs) e)
 
 unused-zero : (r : Record) (used : ℕ) → usedOf (r .kind) ≡ used → allZero (unusedOf r) ≡ true
     → (r .padding ≡ 0) × (allZero (drop used (words r)) ≡ true)
@@ -181,6 +178,12 @@ decode-encode (Swap a b) = refl
 decode-encode (Cy c t) = refl
 decode-encode (Ch c t) = refl
 decode-encode (Cswap c a b) = refl
+
+-- a gate is the one that its kind and the words of its record name
+pub named-by-record : (g : Gate) →
+    namedBy (kindOf g) (recordOf g .first) (recordOf g .second) (recordOf g .third) ≡ Decoded.Gate g
+unfolding gateOf
+named-by-record g = clean-gate (allZero (unusedOf (recordOf g))) (named (recordOf g)) g (decode-encode g) .1
 
 pub encode-decode : (r : Record) (g : Gate) → gateOf r ≡ Decoded.Gate g → recordOf g ≡ r
 encode-decode r g e = decoded-has r g e .0

@@ -58,6 +58,11 @@ unfoldable pub twice : List ℕ → Bool
 twice [] = false
 twice (w ∷ ws) = has w ws || twice ws
 
+-- Of every element of a list.
+abbrev pub All : {A : Type 0} → (A → Type 0) → List A → Type 0
+All P [] = Unit {0}
+All P (x ∷ l) = P x × All P l
+
 -- A valid gate on n wires and so many classical bits: no wire at or over n, none twice, no bit at or over their number.
 pub record Valid (n bits : ℕ) (g : Gate) : Type 0 where
   pub below : (w : ℕ) → touches w g ≡ true → w < n

@@ -3,10 +3,11 @@ use mathlib.Core.Path.{_≡_}
 use Prim.Native.Nat.{ℕ, _+_, _*_, _/_, _%_, _≤_}
 use native.Mathlib.Omega.{arith}
 use borrow.Author.Tests.{ltb-false, eqb-true, not-false}
+use Rattle.gates.proofs.Joined.{neither}
 use Rattle.intake.specs.declared.Tested.{Tested}
 use Rattle.intake.specs.declared.Sizes.{Sizes}
 use Rattle.intake.specs.Tests.{firstFailing, recordsIn, sizeTests}
-use Rattle.intake.proofs.TestLaws.{first-passes, neither}
+use Rattle.intake.proofs.TestLaws.{first-passes}
 
 pub record Sized (bytes : ℕ) (s : Sizes) : Type 0 where
   pub wires : s .wires ≤ 65536

@@ -17,10 +17,6 @@ use Rattle.gates.proofs.RecordLaws.{one-to-three}
 use Rattle.intake.specs.declared.Tested.{Tested}
 use Rattle.intake.specs.Tests.{Test, position, firstFailing, operandWords, anyOver, recordTests, recordsTests}
 
-pub neither : (a b : Bool) → (a || b) ≡ false → (a ≡ false) × (b ≡ false)
-neither true b e = ((cc), (cc))
-neither false b e = (refl, e)
-
 -- ------------------------------------------------------------ room for a journal, by its quotient
 
 pub room-short : (room g : ℕ) → room / 24 < g → room < 24 * g

@@ -6,11 +6,10 @@ use Prim.Native.Nat.{ℕ, zero, suc}
 use lib.IntN.{pos}
 use Rattle.gates.specs.declared.Gate.{Gate}
 use Rattle.gates.specs.declared.Gate.the-variants.{H, S, Sdg, Cnot, Measure, Reset}
-use Rattle.gates.specs.Gates.{wire, bit, wiresOf}
+use Rattle.gates.specs.Gates.{wire, bit, wiresOf, All}
 use Rattle.meaning.specs.Amplitudes.{times, four, plus, minus, timesW, timesRoot, Amplitude, over, sumOfTwo, Amplitudes, _≈_}
 use Rattle.meaning.specs.Matrices.{sameBits, U, gphase, turnedAll, withPhase, ctrl, conjugated, inv}
 use Rattle.meaning.specs.States.{Setting, with, bitsAt, put, under, allBits, doing, Config, sum, scale, through, kept, zeroed, run}
-use Rattle.meaning.proofs.Operators.{All}
 
 -- ------------------------------------------------------------ an example
 

@@ -1,22 +1,23 @@
 -- Each gate as a local operator, and that it does what the gate does: what its matrix does, or measure and reset.
 use mathlib.Core.Path.{_≡_, refl, sym, _∙_, ap, ap₂, fun-ext}
-use mathlib.Core.Bool.{Bool, false≢true, true, false, not, cond, _||_, _&&_}
+use mathlib.Core.Bool.{Bool, true, false, not, cond, _&&_}
 use mathlib.Core.List.{List, [], _∷_}
 use mathlib.Core.Logic.{_≢_}
 use Prim.Native.Nat.{ℕ}
 use lib.Dec.{T as So, eqb}
-use borrow.Author.Tests.{eq-eqb, eqb-true}
+use borrow.Author.Tests.{eq-eqb, eqb-true, eqb-false}
 use Rattle.gates.specs.declared.Wire.{Wire}
 use Rattle.gates.specs.declared.Bit.{Bit}
 use Rattle.gates.specs.declared.Gate.{Gate}
 use Rattle.gates.specs.declared.Gate.the-variants.{X, H, S, Sdg, Z, T, Tdg, Cnot, Cz, Ccx, Ccz, Measure, Reset, Y, Sx, Swap, Cy, Ch, Cswap}
-use Rattle.gates.specs.Gates.{wire, wiresOf, has, twice}
+use Rattle.gates.specs.Gates.{wire, wiresOf, has, twice, All}
+use Rattle.gates.proofs.Joined.{neither}
 use Rattle.meaning.specs.Amplitudes.{Ops, times}
 use Rattle.meaning.specs.Matrices as M
 use Rattle.meaning.specs.Matrices.{Matrix, factor, sameBit, firstBit, secondBit, U, gphase, turnedAll, withPhase, ctrl, conjugated, inv, swap}
 use Rattle.meaning.specs.States.{Setting, with, bitsAt, doing, Config, on, drawn, sum, scale, through, kept, zeroed, does}
 use Rattle.meaning.proofs.SumLaws.{Laws, add-none-right}
-use Rattle.meaning.proofs.Operators.{flipped, toggle, toggles, Entry, Operator, stored, apply, step, All}
+use Rattle.meaning.proofs.Operators.{flipped, toggle, toggles, Entry, Operator, stored, apply, step}
 use Rattle.meaning.proofs.Paths.{Distinct, word}
 use Rattle.meaning.proofs.MatrixLaws.{matches, by-matrix}
 
@@ -82,20 +83,12 @@ operator (Cswap c a b) = undrawn (c .0 ∷ a .0 ∷ b .0 ∷ []) (a .0 ∷ b .0 
 pub not-among : (w : ℕ) (l : List ℕ) → has w l ≡ false → All (λ v. v ≢ w) l
 unfolding has
 not-among w [] h = tt
-not-among w (v ∷ l) h = go (eqb w v) refl h (not-among w l)
-  where
-    go : (b : Bool) → eqb w v ≡ b → b || has w l ≡ false → (has w l ≡ false → All (λ v. v ≢ w) l) → All (λ v. v ≢ w) (v ∷ l)
-    go true e h ih = absurd (false≢true (sym h))
-    go false e h ih = (λ q. false≢true (sym e ∙ eq-eqb w v (sym q)), ih h)
+not-among w (v ∷ l) h = let n = neither (eqb w v) (has w l) h in (λ q. eqb-false w v (n .0) (sym q), not-among w l (n .1))
 
 pub distinct-wires : (l : List ℕ) → twice l ≡ false → Distinct l
 unfolding twice
 distinct-wires [] h = tt
-distinct-wires (w ∷ l) h = go (has w l) refl h (distinct-wires l)
-  where
-    go : (b : Bool) → has w l ≡ b → b || twice l ≡ false → (twice l ≡ false → Distinct l) → Distinct (w ∷ l)
-    go true e h ih = absurd (false≢true (sym h))
-    go false e h ih = (not-among w l e, ih h)
+distinct-wires (w ∷ l) h = let n = neither (has w l) (twice l) h in (not-among w l (n .0), distinct-wires l (n .1))
 
 -- ------------------------------------------------------------ measure and reset
 

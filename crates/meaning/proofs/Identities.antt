@@ -4,11 +4,10 @@ use Prim.Native.Nat.{ℕ}
 use Rattle.gates.specs.declared.Wire.{Wire}
 use Rattle.gates.specs.declared.Gate.{Gate}
 use Rattle.gates.specs.declared.Gate.the-variants.{X, H, S, Sdg, Z, T, Tdg, Cnot, Cz, Ccx, Ccz, Y, Sx, Swap, Cy, Ch, Cswap}
-use Rattle.gates.specs.Gates.{wire}
+use Rattle.gates.specs.Gates.{wire, All}
 use Rattle.meaning.specs.Amplitudes.{Ops}
 use Rattle.meaning.proofs.SumLaws.{Laws}
 use Rattle.meaning.proofs.Values.{Values, values-laws}
-use Rattle.meaning.proofs.Operators.{All}
 use Rattle.meaning.proofs.Placed.{Identity, allTested, Holds, all-hold, HoldsOfAmplitudes, of-amplitudes}
 
 abbrev identity : ℕ → ℕ → List Gate → List Gate → Identity

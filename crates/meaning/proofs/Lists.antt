@@ -4,11 +4,11 @@ use mathlib.Core.Bool.{Bool, true, false, cond}
 use mathlib.Core.List.{List, [], _∷_, _++_}
 use Prim.Native.Nat.{ℕ, _+_, _%_}
 use Rattle.gates.specs.declared.Gate.{Gate}
-use Rattle.gates.specs.Gates.{wiresOf, twice}
+use Rattle.gates.specs.Gates.{wiresOf, twice, All}
 use Rattle.meaning.specs.Amplitudes.{Ops, times}
 use Rattle.meaning.specs.States.{Setting, bitsAt, Config, on, sum, scale, run}
 use Rattle.meaning.proofs.SumLaws.{Laws, times-plus, turns-sum, turns-mod, scale-turns, add-none-right}
-use Rattle.meaning.proofs.Operators.{Operator, apply, toggles, plain, drawing, step, All, Free, change-places, turned}
+use Rattle.meaning.proofs.Operators.{Operator, apply, toggles, plain, drawing, step, Free, change-places, turned}
 use Rattle.meaning.proofs.GateOperators.{operator, phase, acts}
 
 -- No wire twice.

@@ -5,13 +5,14 @@ use mathlib.Core.List.{List, [], _∷_, _++_}
 use Prim.Native.Nat.{ℕ, _%_}
 use lib.Dec.{T}
 use lib.ListN.{length}
+use Rattle.gates.proofs.Joined.{and-both}
 use Rattle.meaning.specs.Amplitudes.{Ops}
 use Rattle.meaning.specs.Matrices.{Matrix, Factor, sameBits}
 use Rattle.meaning.specs.States.{Setting, bitsAt, put, allBits, sum, scale, through}
 use Rattle.meaning.proofs.SumLaws.{Laws, turns-mod}
 use Rattle.meaning.proofs.Operators.{Operator}
-use Rattle.meaning.proofs.Settle.{Term, term, sameSum, settle, putIn, opposite, raise, raiseAll, opposed, weight, total, total-append, same-sum, and-both}
-use Rattle.meaning.proofs.Paths.{Distinct, put-bits, bits-fit, everywhere, everywhere-at, fitting, allWithin, within, paths, gather, scaled, flipAll, flip, bitsOf, bitAt, word, paths-is}
+use Rattle.meaning.proofs.Settle.{Term, term, sameSum, settle, putIn, opposite, raise, raiseAll, opposed, weight, total, total-append, same-sum}
+use Rattle.meaning.proofs.Paths.{Distinct, put-bits, bits-fit, everywhere, everywhere-at, fitting, allWithin, within, paths, gather, scaled, flipAll, flip, bitsOf, word, paths-is}
 
 -- ------------------------------------------------------------ the test
 
@@ -26,7 +27,7 @@ rowTerms M out (σ ∷ l) = entryTerms σ (M out σ) ++ rowTerms M out l
 
 unfoldable pub matches : List ℕ → ℕ → Operator → Matrix → Bool
 unfolding fitting allWithin within everywhere sameSum settle putIn opposite sameBits raiseAll raise opposed
-    paths gather scaled flipAll flip bitsOf bitAt entryTerms rowTerms allBits
+    paths gather scaled flipAll flip bitsOf entryTerms rowTerms allBits
 matches ws k q M =
     fitting (length ws) (q ∷ []) &&
     everywhere (length ws) (λ σ. sameSum k (paths (q ∷ []) σ) (rowTerms M σ (allBits (length ws))))

@@ -6,6 +6,7 @@ use mathlib.Core.List.{List, [], _∷_}
 use Prim.Native.Nat.{ℕ}
 use lib.Dec.{eqb}
 use borrow.Author.Tests.{ne-eqb}
+use Rattle.gates.specs.Gates.{All}
 use Rattle.meaning.specs.Amplitudes.{Ops, times}
 use Rattle.meaning.specs.Matrices.{Factor, firstBit}
 use Rattle.meaning.specs.States.{Setting, with, bitsAt, Config, on, drawn, sum, scale}
@@ -98,10 +99,6 @@ toggles-swap (v ∷ vs) ws (b ∷ l) m s =
     ap (toggles vs l) (sym (toggle-past ws m v b s)) ∙ toggles-swap vs ws l m (toggle v b s)
 
 -- ------------------------------------------------------------ what stands apart
-
-abbrev pub All : {A : Type 0} → (A → Type 0) → List A → Type 0
-All P [] = Unit {0}
-All P (x ∷ l) = P x × All P l
 
 -- No wire of vs is a wire of ws.
 abbrev pub Apart : List ℕ → List ℕ → Type 0

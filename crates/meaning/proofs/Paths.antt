@@ -5,26 +5,23 @@ use mathlib.Core.Bool.{Bool, true, false, not, cond, _&&_}
 use mathlib.Core.List.{List, [], _∷_, _++_}
 use Prim.Native.Nat.{ℕ, zero, suc, _+_, _%_}
 use lib.Dec.{T, eqb, eqb→eq}
-use lib.ListN.{length}
+use lib.ListN.{length, getD}
 use borrow.Author.Tests.{ne-eqb, eq-eqb}
+use Rattle.gates.specs.Gates.{All}
+use Rattle.gates.proofs.Joined.{and-both}
 use Rattle.meaning.specs.Amplitudes.{Ops, times}
 use Rattle.meaning.specs.Matrices.{Factor, sameBits}
 use Rattle.meaning.specs.States.{Setting, with, bitsAt, put, sum, scale}
 use Rattle.meaning.proofs.SumLaws.{Laws, times-plus, times-swap, turn-past-root, scale-none, scale-add, add-none-right, turns-mod}
-use Rattle.meaning.proofs.Operators.{Operator, Entry, apply, All, toggle, toggles, flipped}
-use Rattle.meaning.proofs.Settle.{Term, term, sameSum, settle, putIn, opposite, raiseAll, raise, opposed, weight, total, total-append, same-sum, and-both}
+use Rattle.meaning.proofs.Operators.{Operator, Entry, apply, toggle, toggles, flipped}
+use Rattle.meaning.proofs.Settle.{Term, term, sameSum, settle, putIn, opposite, raiseAll, raise, opposed, weight, total, total-append, same-sum}
 
 -- ------------------------------------------------------------ words on numbered wires
 
 -- A setting of a few wires is a list of bits; the wires of an operator are places in it.
-unfoldable pub bitAt : List Bool → ℕ → Bool
-bitAt [] i = false
-bitAt (b ∷ l) zero = b
-bitAt (b ∷ l) (suc i) = bitAt l i
-
 unfoldable pub bitsOf : List Bool → List ℕ → List Bool
 bitsOf σ [] = []
-bitsOf σ (i ∷ l) = bitAt σ i ∷ bitsOf σ l
+bitsOf σ (i ∷ l) = getD σ i false ∷ bitsOf σ l
 
 unfoldable pub flip : ℕ → Bool → List Bool → List Bool
 flip i c [] = []
@@ -51,10 +48,8 @@ paths (p ∷ l) σ = gather (paths l) p.flips σ (p .table false (bitsOf σ p.re
 
 -- ------------------------------------------------------------ words on wires
 
-unfoldable pub pick : List ℕ → ℕ → ℕ
-pick [] i = i
-pick (w ∷ ws) zero = w
-pick (w ∷ ws) (suc i) = pick ws i
+abbrev pub pick : List ℕ → ℕ → ℕ
+pick ws i = getD ws i 0
 
 unfoldable pub picks : List ℕ → List ℕ → List ℕ
 picks ws [] = []
@@ -66,7 +61,7 @@ place ws p =
 
 module _ {A : Type 0} (O : Ops A) where
   unfoldable pub word : List ℕ → List Operator → (Setting → A) → Setting → A
-  unfolding place picks pick
+  unfolding place picks
   word ws [] ψ = ψ
   word ws (p ∷ l) ψ = apply O (place ws p) false (word ws l ψ)
 
@@ -94,7 +89,7 @@ everywhere (suc n) f = everywhere n (λ σ. f (false ∷ σ)) && everywhere n (�
 -- Two words take the same amplitudes from every setting of n wires, over the power k of √2.
 unfoldable pub alike : ℕ → ℕ → List Operator → List Operator → Bool
 unfolding fitting allWithin within everywhere sameSum settle putIn opposite sameBits raiseAll raise opposed
-    paths gather scaled flipAll flip bitsOf bitAt
+    paths gather scaled flipAll flip bitsOf
 alike n k l m = fitting n l && fitting n m && everywhere n (λ σ. sameSum k (paths l σ) (paths m σ))
 
 -- ------------------------------------------------------------ settings of some wires
@@ -111,14 +106,14 @@ Fit (w ∷ ws) [] = ⊥
 Fit (w ∷ ws) (b ∷ σ) = Fit ws σ
 
 pub pick-other : (ws : List ℕ) (i w : ℕ) → T (within (length ws) i) → All (λ v. v ≢ w) ws → pick ws i ≢ w
-unfolding pick within
+unfolding within
 pick-other [] i w h d = absurd h
 pick-other (v ∷ ws) zero w h d = d .0
 pick-other (v ∷ ws) (suc i) w h d = pick-other ws i w h (d .1)
 
 put-get : (ws : List ℕ) (σ : List Bool) (u : Setting) (i : ℕ) → Distinct ws → Fit ws σ → T (within (length ws) i) →
-    put ws σ u (pick ws i) ≡ bitAt σ i
-unfolding put pick within bitAt with
+    put ws σ u (pick ws i) ≡ getD σ i false
+unfolding put within with
 put-get [] σ u i d f h = absurd h
 put-get (w ∷ ws) [] u i d f h = absurd f
 put-get (w ∷ ws) (b ∷ σ) u zero d f h = ap (λ e. cond e b (put ws σ u w)) (eq-eqb w w refl)
@@ -147,7 +142,7 @@ with-toggle-other w v true b s d = fun-ext λ x. go (eqb x w) (eqb x v) x (λ p 
 
 put-flip : (ws : List ℕ) (σ : List Bool) (u : Setting) (i : ℕ) (c : Bool) → Distinct ws → Fit ws σ → T (within (length ws) i) →
     toggle (pick ws i) c (put ws σ u) ≡ put ws (flip i c σ) u
-unfolding put pick within flip
+unfolding put within flip
 put-flip [] σ u i c d f h = absurd h
 put-flip (w ∷ ws) [] u i c d f h = absurd f
 put-flip (w ∷ ws) (b ∷ σ) u zero c d f h = with-toggle w c b (put ws σ u)

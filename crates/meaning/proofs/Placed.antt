@@ -1,7 +1,7 @@
 -- Words of gates on the wires 0, 1, 2 that a test finds to do the same, do the same on any distinct wires.
 use mathlib.Core.Path.{_≡_, refl, sym, _∙_, ap, ap₂, fun-ext, subst}
 use mathlib.Core.Logic.{_≢_}
-use mathlib.Core.Bool.{Bool, false≢true, true, false, not, _||_, _&&_}
+use mathlib.Core.Bool.{Bool, true, false, not, _||_, _&&_}
 use mathlib.Core.List.{List, [], _∷_, map}
 use Prim.Native.Nat.{ℕ, zero, suc}
 use lib.Dec.{T as So, eqb}
@@ -9,13 +9,13 @@ use lib.ListN.{length}
 use borrow.Author.Tests.{ne-eqb, eqb-false}
 use Rattle.gates.specs.declared.Gate.{Gate}
 use Rattle.gates.specs.declared.Gate.the-variants.{X, H, S, Sdg, Z, T, Tdg, Cnot, Cz, Ccx, Ccz, Measure, Reset, Y, Sx, Swap, Cy, Ch, Cswap}
-use Rattle.gates.specs.Gates.{wire, wiresOf, has, twice}
+use Rattle.gates.specs.Gates.{wire, wiresOf, has, twice, All}
+use Rattle.gates.proofs.Joined.{and-both, neither}
 use Rattle.meaning.specs.Amplitudes.{Ops, times, Amplitude, Amplitudes}
 use Rattle.meaning.specs.States.{Setting, bitsAt, Config, on, sum, scale, run, SameBut}
 use Rattle.meaning.proofs.SumLaws.{Laws, add-none-right}
 use Rattle.meaning.proofs.Values.{Values, values-laws, same-run}
-use Rattle.meaning.proofs.Operators.{Operator, apply, toggles, step, plain-step, All, turned}
-use Rattle.meaning.proofs.Settle.{and-both}
+use Rattle.meaning.proofs.Operators.{Operator, apply, toggles, step, plain-step, turned}
 use Rattle.meaning.proofs.Paths.{pick, picks, place, word, within, allWithin, Distinct, pick-other, alike, same-words}
 use Rattle.meaning.proofs.GateOperators.{operator, everything, distinct-wires}
 use Rattle.meaning.proofs.Lists.{Proper, drive, run-drive}
@@ -24,7 +24,6 @@ use Rattle.meaning.proofs.Lists.{Proper, drive, run-drive}
 
 -- The gate on the wires that its own wires number.
 unfoldable pub placed : List ℕ → Gate → Gate
-unfolding pick
 placed ws (X w) = X (wire (pick ws (w .0)))
 placed ws (H w) = H (wire (pick ws (w .0)))
 placed ws (S w) = S (wire (pick ws (w .0)))
@@ -91,17 +90,13 @@ placed-wires ws (Cswap c a b) = refl
 
 -- ------------------------------------------------------------ distinct wires
 
-neither : (a b : Bool) → a || b ≡ false → (a ≡ false) × (b ≡ false)
-neither true b e = absurd (false≢true (sym e))
-neither false b e = (refl, e)
-
 so-not : (b : Bool) → So (not b) → b ≡ false
 so-not true h = absurd h
 so-not false h = refl
 
 pick-apart : (ws : List ℕ) (i j : ℕ) → Distinct ws → So (within (length ws) i) → So (within (length ws) j) → i ≢ j →
     pick ws i ≢ pick ws j
-unfolding pick within
+unfolding within
 pick-apart [] i j d h k n = absurd h
 pick-apart (w ∷ ws) zero zero d h k n = absurd (n refl)
 pick-apart (w ∷ ws) zero (suc j) d h k n = λ e. pick-other ws j w k (d .0) (sym e)

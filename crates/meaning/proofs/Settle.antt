@@ -5,6 +5,7 @@ use mathlib.Core.List.{List, [], _∷_, _++_}
 use Prim.Native.Nat.{ℕ, zero, suc, _+_, _-_, _%_}
 use native.Mathlib.Nat as NatL
 use lib.Dec.{T, eqb, eqb→eq}
+use Rattle.gates.proofs.Joined.{and-both}
 use Rattle.meaning.specs.Amplitudes.{Ops, times}
 use Rattle.meaning.specs.Matrices.{sameBit, sameBits}
 use Rattle.meaning.specs.States.{sum}
@@ -58,10 +59,6 @@ unfoldable pub sameSum : ℕ → List Term → List Term → Bool
 sameSum n l m = isNil (settle (raiseAll n l ++ opposed (raiseAll n m)) [])
 
 -- ------------------------------------------------------------ the test is right
-
-pub and-both : (a b : Bool) → T (a && b) → T a × T b
-and-both true b h = (tt, h)
-and-both false b h = absurd h
 
 sameBit-eq : (a b : Bool) → T (sameBit a b) → a ≡ b
 sameBit-eq true true h = refl

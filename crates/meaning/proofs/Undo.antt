@@ -11,7 +11,6 @@ use Rattle.meaning.specs.Amplitudes.{Ops, times}
 use Rattle.meaning.specs.States.{Config}
 use Rattle.meaning.proofs.SumLaws.{Laws}
 use Rattle.meaning.proofs.Operators.{turned}
-use Rattle.meaning.proofs.Paths.{pick}
 use Rattle.meaning.proofs.GateOperators.{operator, distinct-wires}
 use Rattle.meaning.proofs.Lists.{Proper, Undrawn, drive}
 use Rattle.meaning.proofs.Placed.{placed, testedOn, drives}
@@ -45,7 +44,7 @@ undrawn (Cswap c a b) h = refl
 
 module _ {A : Type 0} (O : Ops A) (L : Laws O) where
   pub undo : (g : Gate) → has (kindOf g) selfInverse ≡ true → Proper g → (c : Config A) → drive O (g ∷ g ∷ []) c ≡ c
-  unfolding recordOf has wiresOf placed pick testedOn drive turned times
+  unfolding recordOf has wiresOf placed testedOn drive turned times
   undo (X w) h d c = drives O L x-x tt (w .0 ∷ []) refl (distinct-wires (w .0 ∷ []) d) c
   undo (H w) h d c = drives O L h-h tt (w .0 ∷ []) refl (distinct-wires (w .0 ∷ []) d) c
   undo (S w) h d c = absurd (false≢true h)

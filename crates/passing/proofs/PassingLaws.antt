@@ -6,14 +6,15 @@ use Prim.Native.Nat.{ℕ}
 use lib.Dec.{eqb}
 use types.Run.{OneOf}
 use denote.Enum.Declared.{tagOf}
-use borrow.Author.Tests.{eqb-true, eq-eqb}
+use borrow.Author.Tests.{eq-eqb}
 use Rattle.gates.proofs.Gate.{the-type}
 use Rattle.gates.specs.declared.Wire.{Wire}
 use Rattle.gates.specs.declared.Gate.{Gate}
 use Rattle.gates.specs.declared.Gate.the-variants.{X, Cnot, Ccx}
 use Rattle.gates.specs.Gates.{wiresOf, has, meet, touches, shares}
 use Rattle.rules.specs.MayPass.{Class, x, cnot, ccx, diagonal, other, classOf, off, pastDiagonal, past, mayPass}
-use Rattle.rules.proofs.EqualLaws.{neither, eqb-comm}
+use Rattle.gates.proofs.Joined.{apart}
+use Rattle.rules.proofs.EqualLaws.{eqb-comm}
 use Rattle.leaves.proofs.VariantLaws.{classNumber, Traits, traitsAt, by-place}
 
 -- ------------------------------------------------------------ truth values
@@ -28,15 +29,6 @@ not-or false b = refl
 free : (s q : Bool) → (s ≡ false → q ≡ true) → q ≡ (not s || q)
 free true q h = refl
 free false q h = h refl
-
-apart : (ps gs : List ℕ) (w : ℕ) → meet ps gs ≡ false → has w ps ≡ true → has w gs ≡ false
-unfolding has meet
-apart [] gs w m h = absurd (false≢true h)
-apart (p ∷ ps) gs w m h = go (apart ps gs w (neither (has p gs) (meet ps gs) m .1)) (eqb w p) refl
-  where
-    go : (has w ps ≡ true → has w gs ≡ false) → (t : Bool) → eqb w p ≡ t → has w gs ≡ false
-    go rest true e = rw (eqb-true w p e) (neither (has p gs) (meet ps gs) m .0)
-    go rest false e = rest (rw e at h)
 
 -- so a wire of either is off the other's
 off-theirs : (ps gs : List ℕ) (w : ℕ) → meet ps gs ≡ false → has w ps ≡ true → off w gs ≡ true

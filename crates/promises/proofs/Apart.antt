@@ -1,16 +1,16 @@
 -- Gates that share no wire pass each other.
-use mathlib.Core.Path.{_≡_, refl, sym, _∙_, ap, subst}
+use mathlib.Core.Path.{_≡_, refl, sym, _∙_, ap}
 use mathlib.Core.Logic.{_≢_}
-use mathlib.Core.Bool.{Bool, false≢true, true, false, _||_, or-true}
+use mathlib.Core.Bool.{false≢true, true, false, _||_, or-true}
 use mathlib.Core.List.{List, [], _∷_}
 use Prim.Native.Nat.{ℕ}
 use lib.Dec.{eqb}
-use borrow.Author.Tests.{eqb-true, eq-eqb}
+use borrow.Author.Tests.{eq-eqb}
 use Rattle.gates.specs.declared.Gate.{Gate}
 use Rattle.gates.specs.declared.Gate.the-variants.{X, H, S, Sdg, Z, T, Tdg, Cnot, Cz, Ccx, Ccz, Measure, Reset, Y, Sx, Swap, Cy, Ch, Cswap}
-use Rattle.gates.specs.Gates.{wiresOf, has, meet, shares}
-use Rattle.rules.proofs.EqualLaws.{neither}
-use Rattle.meaning.proofs.Operators.{All, Apart}
+use Rattle.gates.specs.Gates.{wiresOf, has, meet, shares, All}
+use Rattle.gates.proofs.Joined.{apart}
+use Rattle.meaning.proofs.Operators.{Apart}
 use Rattle.meaning.proofs.GateOperators.{operator}
 use Rattle.meaning.proofs.Lists.{Passes}
 
@@ -32,14 +32,7 @@ has-2 u v w l = has-later u w (v ∷ w ∷ l) (has-1 v w l)
 
 -- Wires of lists that do not meet are different.
 different : (ps gs : List ℕ) (v w : ℕ) → meet ps gs ≡ false → has v ps ≡ true → has w gs ≡ true → w ≢ v
-unfolding meet has
-different [] gs v w m h k = absurd (false≢true h)
-different (p ∷ ps) gs v w m h k = let n = neither (has p gs) (meet ps gs) m in
-    go (eqb v p) refl h (n .0) (λ i. different ps gs v w (n .1) i k)
-  where
-    go : (b : Bool) → eqb v p ≡ b → b || has v ps ≡ true → has p gs ≡ false → (has v ps ≡ true → w ≢ v) → w ≢ v
-    go true e i n ih = λ q. false≢true (sym n ∙ subst (λ x. has x gs ≡ true) (q ∙ eqb-true v p e) k)
-    go false e i n ih = ih i
+different ps gs v w m h k e = false≢true (sym (apart ps gs v m h) ∙ ap (λ x. has x gs) (sym e) ∙ k)
 
 -- ------------------------------------------------------------ gates
 

@@ -2,8 +2,9 @@
 use mathlib.Core.Path.{_≡_, refl, sym, _∙_, ap}
 use mathlib.Core.List.{List, [], _∷_}
 use Prim.Native.Nat.{ℕ}
+use Rattle.gates.specs.Gates.{All}
 use Rattle.rules.specs.Equal.{seven}
-use Rattle.rules.specs.Steps.{Cell, Step, gatesOf, AllOf, ValidList}
+use Rattle.rules.specs.Steps.{Cell, Step, gatesOf, ValidList}
 use Rattle.rules.specs.Journal.{replayed, stepsOf, replay}
 use Rattle.rules.specs.Loop.{pass}
 use Rattle.rules.proofs.Replays.{leads, replayed-pass}
@@ -13,7 +14,7 @@ use Rattle.rules.proofs.Ends.{nothing-fires}
 use Rattle.rules.proofs.Kept.{replay-valid}
 use Rattle.meaning.specs.Amplitudes.{Amplitude, Amplitudes}
 use Rattle.meaning.specs.States.{Config, run, SameBut}
-use Rattle.meaning.proofs.Operators.{All, turned}
+use Rattle.meaning.proofs.Operators.{turned}
 use Rattle.meaning.proofs.Values.{Values, values-laws, same-run}
 use Rattle.meaning.proofs.Lists.{Proper, run-drive}
 use Rattle.promises.specs.Turns.{turnsOf, modulo8}
@@ -23,14 +24,9 @@ use Rattle.promises.proofs.TurnLaws.{modulo8-small}
 use Rattle.promises.proofs.Keeps.{journal-same}
 
 module _ {A : Type 0} where
-  valid-proper : (n bits : ℕ) (l : List (Cell A)) → ValidList n bits l → AllOf Proper l
+  valid-proper : (n bits : ℕ) (l : List (Cell A)) → ValidList n bits l → All Proper (gatesOf l)
   valid-proper n bits [] v = tt
   valid-proper n bits (e ∷ l) v = (v .0 .distinct, valid-proper n bits l (v .1))
-
-  all-gates : (l : List (Cell A)) → AllOf Proper l → All Proper (gatesOf l)
-  unfolding gatesOf
-  all-gates [] v = tt
-  all-gates (e ∷ l) v = (v .0, all-gates l (v .1))
 
 module _ (kinds : List ℕ) (si : SelfInverse kinds) {A : Type 0} where
   -- A valid list, and a journal that is accepted on it: the same amplitudes, turned by exactly the journal's turns.
@@ -39,11 +35,11 @@ module _ (kinds : List ℕ) (si : SelfInverse kinds) {A : Type 0} where
       SameBut (modulo8 (turnsOf kinds ss l)) (run Amplitudes (gatesOf l) start) (run Amplitudes (gatesOf m) start)
   same-amplitudes n bits ss l m v h start =
       let k = modulo8 (turnsOf kinds ss l) in
-      let before = all-gates l (valid-proper n bits l v) in
-      let after = all-gates m (valid-proper n bits m (replay-valid kinds n bits ss l m h v)) in
+      let before = valid-proper n bits l v in
+      let after = valid-proper n bits m (replay-valid kinds n bits ss l m h v) in
       same-run (gatesOf l) (gatesOf m) k (λ c.
       run-drive Values values-laws (gatesOf l) before c
-      ∙ journal-same Values values-laws kinds si m ss l (leads kinds 0 ss l m h) (valid-proper n bits l v) c
+      ∙ journal-same Values values-laws kinds si m ss l (leads kinds 0 ss l m h) before c
       ∙ ap (turned Values k) (sym (run-drive Values values-laws (gatesOf m) after c))) start
 
   pub keeps : (n bits : ℕ) (ss : List Step) (l m : List (Cell A)) → ValidList n bits l → replay kinds ss l ≡ replayed m →

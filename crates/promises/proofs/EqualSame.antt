@@ -4,6 +4,7 @@ use mathlib.Core.Bool.{Bool, false≢true, true, false, cond}
 use mathlib.Core.List.{List, [], _∷_, _++_}
 use Prim.Native.Nat.{ℕ}
 use lib.Dec.{leb}
+use lib.ListN.{getD}
 use Rattle.gates.specs.declared.Wire.{Wire}
 use Rattle.gates.specs.declared.Gate.{Gate}
 use Rattle.gates.specs.declared.Gate.the-variants.{X, H, S, Sdg, Z, T, Tdg, Cnot, Cz, Ccx, Ccz, Measure, Reset, Y, Sx, Swap, Cy, Ch, Cswap}
@@ -17,7 +18,7 @@ use Rattle.meaning.specs.Amplitudes.{Ops, times}
 use Rattle.meaning.specs.States.{Config}
 use Rattle.meaning.proofs.SumLaws.{Laws}
 use Rattle.meaning.proofs.Operators.{step, turned}
-use Rattle.meaning.proofs.Paths.{pick, Distinct}
+use Rattle.meaning.proofs.Paths.{Distinct}
 use Rattle.meaning.proofs.GateOperators.{operator, distinct-wires}
 use Rattle.meaning.proofs.Lists.{Proper, drive}
 use Rattle.meaning.proofs.Placed.{placed, testedOn, drives}
@@ -32,20 +33,8 @@ gateIn Decoded.Angle = X (wire 0)
 gateIn Decoded.Unknown = X (wire 0)
 gateIn Decoded.NotZero = X (wire 0)
 
-abbrev at0 : List ℕ → ℕ
-at0 [] = 0
-at0 (a ∷ l) = a
-
-abbrev at1 : List ℕ → ℕ
-at1 [] = 0
-at1 (a ∷ l) = at0 l
-
-abbrev at2 : List ℕ → ℕ
-at2 [] = 0
-at2 (a ∷ l) = at1 l
-
 form : ℕ → List ℕ → Gate
-form k l = gateIn (namedBy k (at0 l) (at1 l) (at2 l))
+form k l = gateIn (namedBy k (getD l 0 0) (getD l 1 0) (getD l 2 0))
 
 module _ {A : Type 0} (O : Ops A) (L : Laws O) where
   abbrev SameGate : Gate → Gate → Type 0
@@ -54,19 +43,19 @@ module _ {A : Type 0} (O : Ops A) (L : Laws O) where
   -- ------------------------------------------------------------ wires in another order
 
   cz-swapped : (a b : Wire) → Distinct (a .0 ∷ b .0 ∷ []) → SameGate (Cz a b) (Cz b a)
-  unfolding placed pick testedOn turned times
+  unfolding placed testedOn turned times
   cz-swapped a b d c = drives O L cz-order tt (a .0 ∷ b .0 ∷ []) refl d c
 
   ccx-swapped : (a b t : Wire) → Distinct (a .0 ∷ b .0 ∷ t .0 ∷ []) → SameGate (Ccx a b t) (Ccx b a t)
-  unfolding placed pick testedOn turned times
+  unfolding placed testedOn turned times
   ccx-swapped a b t d c = drives O L ccx-order tt (a .0 ∷ b .0 ∷ t .0 ∷ []) refl d c
 
   ccz-first-two : (a b t : Wire) → Distinct (a .0 ∷ b .0 ∷ t .0 ∷ []) → SameGate (Ccz a b t) (Ccz b a t)
-  unfolding placed pick testedOn turned times
+  unfolding placed testedOn turned times
   ccz-first-two a b t d c = drives O L ccz-first tt (a .0 ∷ b .0 ∷ t .0 ∷ []) refl d c
 
   ccz-last-two : (a b t : Wire) → Distinct (a .0 ∷ b .0 ∷ t .0 ∷ []) → SameGate (Ccz a b t) (Ccz a t b)
-  unfolding placed pick testedOn turned times
+  unfolding placed testedOn turned times
   ccz-last-two a b t d c = drives O L ccz-last tt (a .0 ∷ b .0 ∷ t .0 ∷ []) refl d c
 
   -- ------------------------------------------------------------ canonical order

@@ -1,7 +1,7 @@
 -- A step, and so a journal, keeps what a list does, but for its turns.
 use mathlib.Core.Path.{_≡_, refl, sym, _∙_, ap, subst, subst₂}
 use mathlib.Core.Bool.{Bool, true, false, not, cond, _&&_}
-use mathlib.Core.List.{List, [], _∷_, _++_, append-nil, append-assoc}
+use mathlib.Core.List.{List, [], _∷_, _++_, append-nil, append-assoc, map-append}
 use mathlib.Core.Option.{Option, some, none}
 use Prim.Native.Nat.{ℕ}
 use lib.Dec.{eqb}
@@ -9,21 +9,22 @@ use lib.IntN.{ℤ, pos, _+ℤ_}
 use borrow.Author.Tests.{not-true, eqb-true}
 use Rattle.gates.specs.declared.Gate.{Gate}
 use Rattle.gates.specs.declared.Gate.the-variants.{H}
-use Rattle.gates.specs.Gates.{wire, wiresOf, has, shares}
+use Rattle.gates.specs.Gates.{wire, wiresOf, has, shares, All}
 use Rattle.gates.specs.Records.{kindOf, isH}
 use Rattle.rules.specs.Equal.{equal, cancels, isPair}
 use Rattle.rules.specs.Runs.{Rewrite, rewriteOf, sumOf, isHOn}
 use Rattle.rules.specs.MayPass.{mayPass}
-use Rattle.rules.specs.Steps.{Cell, Step, try, when, firstOf, gatesOf, AllOf, all, track, put, putFirst, change1, change2, change3, change, act}
+use Rattle.rules.specs.Steps.{Cell, Step, try, when, firstOf, gatesOf, all, track, put, putFirst, change1, change2, change3, change, act}
 use Rattle.rules.proofs.Names.{rewritten}
-use Rattle.rules.proofs.EqualLaws.{and-left, and-right, none-not-some, equal-meet, cancels-equal}
+use Rattle.gates.proofs.Joined.{and-left, and-right}
+use Rattle.rules.proofs.EqualLaws.{none-not-some, equal-meet, cancels-equal}
 use Rattle.rules.proofs.Between.{is-h, h-wire}
 use Rattle.rules.proofs.Replays.{Leads}
 use Rattle.rules.proofs.Acts.{whole, if-true, if-h-true, act-parts, along}
 use Rattle.rules.proofs.Kept.{Stable, all-back, act-kept}
 use Rattle.meaning.specs.Amplitudes.{Ops}
 use Rattle.meaning.proofs.SumLaws.{Laws}
-use Rattle.meaning.proofs.Operators.{All, turned}
+use Rattle.meaning.proofs.Operators.{turned}
 use Rattle.meaning.proofs.Lists.{Proper, Passes, Same, drive, remove-pair, same-inside, unturned}
 use Rattle.meaning.proofs.Undo.{selfInverse, undrawn}
 use Rattle.promises.proofs.SelfInverse.{SelfInverse, pair-undoes}
@@ -31,7 +32,6 @@ use Rattle.promises.specs.Turns.{turnsBetween, turnsAt, turnsOfStep, tur
 use Rattle.promises.proofs.Apart.{apart-passes}
 use Rattle.promises.proofs.Passing.{may-pass}
 use Rattle.promises.proofs.EqualSame.{equal-undo}
-use Rattle.promises.proofs.Parting.{gates-append}
 use Rattle.promises.proofs.Rewrites.{SameIf, rewrite-same}
 use Rattle.promises.proofs.TurnLaws.{turned-sum, turns-of-step}
 
@@ -57,9 +57,9 @@ module _ {B : Type 0} (O : Ops B) (L : Laws O) {A : Type 0} (kinds : List ℕ) (
   pair-same : (e : Cell A) (m : List (Cell A)) (f : Cell A) → has (kindOf (e .gate)) selfInverse ≡ true →
       equal (e .gate) (f .gate) ≡ true → Proper (e .gate) → Proper (f .gate) → All (Passes (e .gate)) (gatesOf m) →
       SameCells (pos 0) (whole e m f) m
-  unfolding gatesOf modulo8
+  unfolding modulo8
   pair-same e m f k h p q a c =
-      ap (λ x. drive O (e .gate ∷ x) c) (gates-append m (f ∷ []))
+      ap (λ x. drive O (e .gate ∷ x) c) (map-append (λ e. e .gate) m (f ∷ []))
       ∙ remove-pair O L (gatesOf m) [] (e .gate) (f .gate) c (undrawn (e .gate) k)
       (equal-undo O L (e .gate) (f .gate) k h p q) a
       ∙ ap (λ x. drive O x c) (append-nil (gatesOf m))
@@ -67,7 +67,6 @@ module _ {B : Type 0} (O : Ops B) (L : Laws O) {A : Type 0} (kinds : List ℕ) (
 
   off-all : (e f : Gate) (m : List (Cell A)) → equal e f ≡ true → all (λ g. not (shares f g)) m ≡ true →
       All (Passes e) (gatesOf m)
-  unfolding gatesOf
   off-all e f [] h q = tt
   off-all e f (x ∷ m) h q = (
     apart-passes e (x .gate) (equal-meet e f (wiresOf (x .gate)) h ∙ not-true (shares f (x .gate)) (and-left _ _ q)),
@@ -75,7 +74,6 @@ module _ {B : Type 0} (O : Ops B) (L : Laws O) {A : Type 0} (kinds : List ℕ) (
   )
 
   pass-all : (e : Gate) (m : List (Cell A)) → Proper e → all (mayPass e) m ≡ true → All (Passes e) (gatesOf m)
-  unfolding gatesOf
   pass-all e [] p q = tt
   pass-all e (x ∷ m) p q =
       (may-pass e (x .gate) p (and-left (mayPass e (x .gate)) _ q), pass-all e m p (and-right (mayPass e (x .gate)) _ q))
@@ -134,26 +132,26 @@ module _ {B : Type 0} (O : Ops B) (L : Laws O) {A : Type 0} (kinds : List ℕ) (
       (same-inside O L (gatesOf a) (gatesOf x) (gatesOf n) (gatesOf b) (modulo8 z) h)
     where
       split : (y : List (Cell A)) → gatesOf (a ++ (y ++ b)) ≡ gatesOf a ++ (gatesOf y ++ gatesOf b)
-      split y = gates-append a (y ++ b) ∙ ap (λ t. gatesOf a ++ t) (gates-append y b)
+      split y = map-append (λ e. e .gate) a (y ++ b) ∙ ap (λ t. gatesOf a ++ t) (map-append (λ e. e .gate) y b)
 
-  act-same : (s : Step) (l r : List (Cell A)) → AllOf Proper l → act kinds s l ≡ some r → SameCells (turnsOfStep s l) l r
+  act-same : (s : Step) (l r : List (Cell A)) → All Proper (gatesOf l) → act kinds s l ≡ some r → SameCells (turnsOfStep s l) l r
   act-same s l r v h = let p = act-parts kinds s l r h in
       subst (λ z. SameCells z l r) (sym (turns-of-step kinds s l r p))
-      (go (p .a) (p .e) (p .m) (p .f) (p .b) (p .new) (p .found) (p .left) (p .by) (subst (AllOf Proper) (p .found) v))
+      (go (p .a) (p .e) (p .m) (p .f) (p .b) (p .new) (p .found) (p .left) (p .by) (subst (λ x. All Proper (gatesOf x)) (p .found) v))
     where
       go : (a : List (Cell A)) (e : Cell A) (m : List (Cell A)) (f : Cell A) (b n : List (Cell A)) →
           l ≡ a ++ (e ∷ (m ++ (f ∷ b))) → r ≡ a ++ (n ++ b) → change kinds s.kind e m f ≡ some n →
-          AllOf Proper (a ++ (e ∷ (m ++ (f ∷ b)))) → SameCells (turnsAt s.kind e m) l r
+          All Proper (gatesOf (a ++ (e ∷ (m ++ (f ∷ b))))) → SameCells (turnsAt s.kind e m) l r
       go a e m f b n p q t v =
           let y = all-back Proper a (e ∷ (m ++ (f ∷ b))) v in
           subst₂ (SameCells (turnsAt s.kind e m)) (sym (p ∙ ap (λ u. a ++ (e ∷ u)) (sym (append-assoc m (f ∷ []) b)))) (sym q)
           (inside-same a (whole e m f) n b (turnsAt s.kind e m)
           (change-same s.kind e m f n (y .0) (all-back Proper m (f ∷ b) (y .1) .0) t))
 
-  pub journal-same : (m : List (Cell A)) (ss : List Step) (l : List (Cell A)) → Leads kinds ss l m → AllOf Proper l →
+  pub journal-same : (m : List (Cell A)) (ss : List Step) (l : List (Cell A)) → Leads kinds ss l m → All Proper (gatesOf l) →
       SameCells (turnsOf kinds ss l) l m
   unfolding turnsOf modulo8
-  journal-same m = along kinds m (λ ss l. AllOf Proper l → SameCells (turnsOf kinds ss l) l m)
+  journal-same m = along kinds m (λ ss l. All Proper (gatesOf l) → SameCells (turnsOf kinds ss l) l m)
       (λ v c. sym (unturned O (drive O (gatesOf m) c)))
       λ s ss l k p t ih v c.
       act-same s l k v p c

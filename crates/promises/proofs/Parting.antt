@@ -7,12 +7,12 @@ use Prim.Native.Nat.{ℕ}
 use lib.Dec.{eqb}
 use borrow.Author.Tests.{eqb-true}
 use Rattle.gates.specs.declared.Gate.{Gate}
-use Rattle.gates.specs.Gates.{wiresOf, has, meet, touches}
+use Rattle.gates.specs.Gates.{wiresOf, has, meet, touches, All}
 use Rattle.rules.specs.Steps.{Cell, gatesOf, track, offWire, put, putFirst}
 use Rattle.meaning.specs.Amplitudes.{Ops}
 use Rattle.meaning.specs.States.{Config}
 use Rattle.meaning.proofs.SumLaws.{Laws}
-use Rattle.meaning.proofs.Operators.{All, step}
+use Rattle.meaning.proofs.Operators.{step}
 use Rattle.meaning.proofs.GateOperators.{operator}
 use Rattle.meaning.proofs.Lists.{Passes, Undrawn, drive, drive-append, pass-list}
 use Rattle.promises.proofs.Apart.{apart-passes}
@@ -45,13 +45,8 @@ module _ {A : Type 0} where
       go true q h = (q, h)
       go false q h = h
 
-  pub gates-append : (l m : List (Cell A)) → gatesOf (l ++ m) ≡ gatesOf l ++ gatesOf m
-  unfolding gatesOf
-  gates-append [] m = refl
-  gates-append (e ∷ l) m = ap (_∷_ (e .gate)) (gates-append l m)
-
   off-passes : (w : ℕ) (g : Gate) (m : List (Cell A)) → Only w g → All (Passes g) (gatesOf (offWire w m))
-  unfolding offWire gatesOf
+  unfolding offWire
   off-passes w g [] o = tt
   off-passes w g (e ∷ m) o = go (touches w (e .gate)) refl (off-passes w g m o)
     where
@@ -104,7 +99,7 @@ module _ {B : Type 0} (O : Ops B) (L : Laws O) where
   module _ {A : Type 0} (w : ℕ) where
     -- The gates on the wire, then those off it.
     pub parted : (m : List (Cell A)) → All (Only w) (track w m) → Runs (gatesOf m) (track w m ++ gatesOf (offWire w m))
-    unfolding gatesOf track offWire
+    unfolding track offWire
     parted [] o c = refl
     parted (e ∷ m) o c = go (touches w (e .gate)) refl o (parted m)
       where
@@ -118,7 +113,7 @@ module _ {B : Type 0} (O : Ops B) (L : Laws O) where
     -- A gate put in place of the first on the wire moves before those off it.
     pub first-moved : (g : Gate) (m : List (Cell A)) → Only w g → busy (track w m) ≡ true →
         Runs (gatesOf (putFirst w (some g) m)) (g ∷ gatesOf (offWire w m))
-    unfolding gatesOf track offWire putFirst
+    unfolding track offWire putFirst
     first-moved g [] o h c = absurd (false≢true h)
     first-moved g (e ∷ m) o h c = go (touches w (e .gate)) refl h (first-moved g m o)
       where

@@ -11,7 +11,7 @@ use Rattle.gates.specs.Gates.{wiresOf, has, shares}
 use Rattle.rules.specs.Equal.{isPair}
 use Rattle.rules.specs.MayPass as Rules
 use Rattle.rules.specs.MayPass.{Class, classOf, past, off, mayPass}
-use Rattle.rules.proofs.EqualLaws.{and-left, and-right}
+use Rattle.gates.proofs.Joined.{and-left, and-right}
 use Rattle.meaning.specs.Amplitudes.{Ops}
 use Rattle.meaning.specs.States.{Config, run}
 use Rattle.meaning.proofs.SumLaws.{Laws}

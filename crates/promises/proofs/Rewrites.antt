@@ -1,7 +1,7 @@
 -- Two h on a wire, and between them a run or one x: the rewrite does the same, but for its turns.
 use mathlib.Core.Path.{_≡_, refl, sym, _∙_, ap, ap₂, subst}
 use mathlib.Core.Bool.{Bool, false≢true, true, false, cond}
-use mathlib.Core.List.{List, [], _∷_, _++_, append-nil, append-assoc}
+use mathlib.Core.List.{List, [], _∷_, _++_, append-nil, append-assoc, map-append}
 use mathlib.Core.Option.{Option, some, none}
 use Prim.Native.Nat.{ℕ, _%_}
 use native.Mathlib.Nat as NatL
@@ -10,21 +10,22 @@ use lib.IntN.{ℤ}
 use borrow.Author.Tests.{eqb-true}
 use Rattle.gates.specs.declared.Gate.{Gate}
 use Rattle.gates.specs.declared.Gate.the-variants.{X, H, S, Sdg, Z, T, Tdg, Cnot, Cz, Ccx, Ccz, Measure, Reset, Y, Sx, Swap, Cy, Ch, Cswap}
-use Rattle.gates.specs.Gates.{wire, wiresOf, touches}
-use Rattle.gates.specs.Records.{recordOf, kindOf}
+use Rattle.gates.specs.Kinds.{shapes, shapeOf}
+use Rattle.gates.specs.Gates.{wire, wiresOf, touches, All}
+use Rattle.gates.specs.Records.{kindOf}
 use Rattle.rules.specs.Runs.{worth, plus, sumOf, Rewrite, rewrite, byEighths, bySum, loneX, rewriteOf}
 use Rattle.rules.specs.Steps.{Cell, firstOf, gatesOf, track, offWire, put, putFirst}
+use Rattle.rules.proofs.Between.{of-one-wire}
 use Rattle.meaning.specs.Amplitudes.{Ops}
 use Rattle.meaning.specs.States.{Config}
 use Rattle.meaning.proofs.SumLaws.{Laws}
-use Rattle.meaning.proofs.Operators.{All, plain, step, turned}
-use Rattle.meaning.proofs.Paths.{pick}
+use Rattle.meaning.proofs.Operators.{plain, step, turned}
 use Rattle.meaning.proofs.GateOperators.{operator, phase}
 use Rattle.meaning.proofs.Lists.{Same, drive, same-inside, phase-none, phase-plus, phase-mod}
 use Rattle.meaning.proofs.Placed.{placed, testedOn, drives}
 use Rattle.meaning.proofs.Identities.{h-h, h-x-h, h-z-h, h-s-h, h-sdg-h}
 use Rattle.promises.specs.Turns.{turnsFor, turnsBetween, modulo8}
-use Rattle.promises.proofs.Parting.{Only, on-wire, track-on, gates-append, put-none, busy, Runs, runs-cons, runs-before, runs-after, parted, first-moved, last-moved}
+use Rattle.promises.proofs.Parting.{Only, on-wire, track-on, put-none, busy, Runs, runs-cons, runs-before, runs-after, parted, first-moved, last-moved}
 
 -- ------------------------------------------------------------ runs
 
@@ -102,24 +103,24 @@ module _ {B : Type 0} (O : Ops B) (L : Laws O) (w : ℕ) where
   between t s n p q = runs-cons O L (H (wire w)) _ _ (runs-after O L t s (H (wire w) ∷ []) λ c. p c ∙ sym (q c))
 
   between-0 : (t : List Gate) → Turns 0 t → Same O 0 (closed t) []
-  unfolding placed pick testedOn drive
+  unfolding placed testedOn drive
   between-0 t p c =
       between t [] 0 p (λ c. sym (phase-none O L w c)) c ∙ drives O L h-h tt (w ∷ []) refl (tt, tt) c
 
   between-4 : (t : List Gate) → Turns 4 t → Same O 0 (closed t) (X (wire w) ∷ [])
-  unfolding placed pick testedOn drive step operator
+  unfolding placed testedOn drive step operator
   between-4 t p c = between t (Z (wire w) ∷ []) 4 p (λ c. refl) c ∙ drives O L h-z-h tt (w ∷ []) refl (tt, tt) c
 
   between-2 : (t : List Gate) → Turns 2 t → Same O 1 (closed t) (Sdg (wire w) ∷ H (wire w) ∷ Sdg (wire w) ∷ [])
-  unfolding placed pick testedOn drive step operator
+  unfolding placed testedOn drive step operator
   between-2 t p c = between t (S (wire w) ∷ []) 2 p (λ c. refl) c ∙ drives O L h-s-h tt (w ∷ []) refl (tt, tt) c
 
   between-6 : (t : List Gate) → Turns 6 t → Same O 7 (closed t) (S (wire w) ∷ H (wire w) ∷ S (wire w) ∷ [])
-  unfolding placed pick testedOn drive step operator
+  unfolding placed testedOn drive step operator
   between-6 t p c = between t (Sdg (wire w) ∷ []) 6 p (λ c. refl) c ∙ drives O L h-sdg-h tt (w ∷ []) refl (tt, tt) c
 
   between-x : Same O 0 (closed (X (wire w) ∷ [])) (Z (wire w) ∷ [])
-  unfolding placed pick testedOn
+  unfolding placed testedOn
   between-x c = drives O L h-x-h tt (w ∷ []) refl (tt, tt) c
 
 -- ------------------------------------------------------------ the gates that are put in
@@ -146,26 +147,8 @@ module _ (w : ℕ) where
   sdg-only = record { undrawn = refl; alone = refl }
 
 is-x : (g : Gate) → eqb (kindOf g) 0 ≡ true → g ≡ X (wire (firstOf (wiresOf g)))
-unfolding recordOf wiresOf
-is-x (X w) h = refl
-is-x (H w) h = absurd (false≢true h)
-is-x (S w) h = absurd (false≢true h)
-is-x (Sdg w) h = absurd (false≢true h)
-is-x (Z w) h = absurd (false≢true h)
-is-x (T w) h = absurd (false≢true h)
-is-x (Tdg w) h = absurd (false≢true h)
-is-x (Cnot c t) h = absurd (false≢true h)
-is-x (Cz c t) h = absurd (false≢true h)
-is-x (Ccx c d t) h = absurd (false≢true h)
-is-x (Ccz c d t) h = absurd (false≢true h)
-is-x (Measure w b) h = absurd (false≢true h)
-is-x (Reset w) h = absurd (false≢true h)
-is-x (Y w) h = absurd (false≢true h)
-is-x (Sx w) h = absurd (false≢true h)
-is-x (Swap a b) h = absurd (false≢true h)
-is-x (Cy c t) h = absurd (false≢true h)
-is-x (Ch c t) h = absurd (false≢true h)
-is-x (Cswap c a b) h = absurd (false≢true h)
+unfolding shapeOf shapes wiresOf
+is-x = of-one-wire 0 X refl (λ w. refl)
 
 lone-x : (w : ℕ) (t : List Gate) → loneX t ≡ true → All (λ g. touches w g ≡ true) t → t ≡ X (wire w) ∷ []
 lone-x w [] h k = absurd (false≢true h)
@@ -193,11 +176,14 @@ module _ {B : Type 0} (O : Ops B) (L : Laws O) {A : Type 0} (w : ℕ) (e : Cell 
   abbrev before : List Gate
   before = gatesOf (e ∷ (m ++ (f ∷ [])))
 
+  -- What a rewrite leaves, by what stands in place of each h and of the first gate between them.
+  abbrev after : Option Gate → Option Gate → List (Cell A)
+  after ends first = put ends e (putFirst w first m ++ put ends f [])
+
   -- What is on the wire, then what is off it.
   before-parted : All (Only w) t → Runs O L before (closed O L w t ++ off)
-  unfolding gatesOf
   before-parted o c =
-      ap₂ (λ g x. drive O (g ∷ x) c) he (gates-append m (f ∷ []) ∙ ap (λ g. gatesOf m ++ (g ∷ [])) hf)
+      ap₂ (λ g x. drive O (g ∷ x) c) he (map-append (λ e. e .gate) m (f ∷ []) ∙ ap (λ g. gatesOf m ++ (g ∷ [])) hf)
       ∙ runs-cons O L (H (wire w)) _ _ (runs-after O L (gatesOf m) (t ++ off) (H (wire w) ∷ []) (parted O L w m o)) c
       ∙ ap (λ x. drive O (H (wire w) ∷ x) c) (append-assoc t off (H (wire w) ∷ []))
       ∙ runs-cons O L (H (wire w)) _ _ (runs-before O L t _ _ (last-moved O L w (H (wire w)) m (h-only w))) c
@@ -208,42 +194,43 @@ module _ {B : Type 0} (O : Ops B) (L : Laws O) {A : Type 0} (w : ℕ) (e : Cell 
   ending core k n o s r c =
       before-parted o c ∙ same-inside O L [] (closed O L w t) core off k s c ∙ ap (turned O k) (r c)
 
-  all-gone : Runs O L off (gatesOf (putFirst w none m ++ []))
+  all-gone : Runs O L off (gatesOf (after none none))
   all-gone c = ap (λ x. drive O (gatesOf x) c) (sym (append-nil (putFirst w none m) ∙ put-none w m))
 
-  one-left : (g : Gate) → Only w g → busy t ≡ true → Runs O L (g ∷ off) (gatesOf (putFirst w (some g) m ++ []))
+  one-left : (g : Gate) → Only w g → busy t ≡ true → Runs O L (g ∷ off) (gatesOf (after none (some g)))
   one-left g o h c =
       sym (first-moved O L w g m o h c) ∙ ap (λ x. drive O (gatesOf x) c) (sym (append-nil (putFirst w (some g) m)))
 
   three-left : (d g : Gate) → Only w d → Only w g → busy t ≡ true →
-      Runs O L (d ∷ g ∷ d ∷ off) (gatesOf (put (some d) e (putFirst w (some g) m ++ put (some d) f [])))
-  unfolding gatesOf
+      Runs O L (d ∷ g ∷ d ∷ off) (gatesOf (after (some d) (some g)))
   three-left d g o p h c = sym (
-      ap (λ x. drive O (d ∷ x) c) (gates-append (putFirst w (some g) m) _)
+      ap (λ x. drive O (d ∷ x) c) (map-append (λ e. e .gate) (putFirst w (some g) m) _)
       ∙ runs-cons O L d _ _ (runs-after O L (gatesOf (putFirst w (some g) m)) (g ∷ off) (d ∷ []) (first-moved O L w g m p h)) c
       ∙ runs-cons O L d _ _ (runs-cons O L g _ _ (last-moved O L w d m o)) c)
 
   -- Where there is a rewrite, it does the same but for so many turns.
   abbrev pub SameIf : ℤ → Option Rewrite → Type 0
   SameIf z none = Unit {0}
-  SameIf z (some r) = Same O (modulo8 z) before (gatesOf (put r.ends e (putFirst w r.first m ++ put r.ends f [])))
+  SameIf z (some r) = Same O (modulo8 z) before (gatesOf (after r.ends r.first))
 
   at-0 : Turns O L w 0 t → All (Only w) t → SameIf (turnsFor 0) (byEighths (wire w) 0)
   unfolding byEighths turnsFor modulo8
-  at-0 p o = ending [] 0 _ o (between-0 O L w t p) all-gone
+  at-0 p o = ending [] 0 (after none none) o (between-0 O L w t p) all-gone
 
   at-4 : Turns O L w 4 t → All (Only w) t → busy t ≡ true → SameIf (turnsFor 4) (byEighths (wire w) 4)
   unfolding byEighths turnsFor modulo8
-  at-4 p o b = ending (X (wire w) ∷ []) 0 _ o (between-4 O L w t p) (one-left (X (wire w)) (x-only w) b)
+  at-4 p o b = ending (X (wire w) ∷ []) 0 (after none (some (X (wire w)))) o (between-4 O L w t p) (one-left (X (wire w)) (x-only w) b)
 
   at-2 : Turns O L w 2 t → All (Only w) t → busy t ≡ true → SameIf (turnsFor 2) (byEighths (wire w) 2)
   unfolding byEighths turnsFor modulo8
-  at-2 p o b = ending (Sdg (wire w) ∷ H (wire w) ∷ Sdg (wire w) ∷ []) 1 _ o (between-2 O L w t p)
+  at-2 p o b = ending (Sdg (wire w) ∷ H (wire w) ∷ Sdg (wire w) ∷ []) 1 (after (some (Sdg (wire w))) (some (H (wire w)))) o
+      (between-2 O L w t p)
       (three-left (Sdg (wire w)) (H (wire w)) (sdg-only w) (h-only w) b)
 
   at-6 : Turns O L w 6 t → All (Only w) t → busy t ≡ true → SameIf (turnsFor 6) (byEighths (wire w) 6)
   unfolding byEighths turnsFor modulo8
-  at-6 p o b = ending (S (wire w) ∷ H (wire w) ∷ S (wire w) ∷ []) 7 _ o (between-6 O L w t p)
+  at-6 p o b = ending (S (wire w) ∷ H (wire w) ∷ S (wire w) ∷ []) 7 (after (some (S (wire w))) (some (H (wire w)))) o
+      (between-6 O L w t p)
       (three-left (S (wire w)) (H (wire w)) (s-only w) (h-only w) b)
 
   by-eighths : (n : ℕ) → Turns O L w n t → All (Only w) t → (eqb n 0 ≡ false → busy t ≡ true) →
@@ -267,7 +254,7 @@ module _ {B : Type 0} (O : Ops B) (L : Laws O) {A : Type 0} (w : ℕ) (e : Cell 
   x-between : t ≡ X (wire w) ∷ [] → SameIf (turnsBetween (sumOf t)) (rewrite none (some (Z (wire w))))
   unfolding sumOf worth modulo8
   x-between z = subst (λ s. SameIf (turnsBetween (sumOf s)) (rewrite none (some (Z (wire w))))) (sym z)
-      (ending (Z (wire w) ∷ []) 0 _ (subst (All (Only w)) (sym z) (x-only w, tt))
+      (ending (Z (wire w) ∷ []) 0 (after none (some (Z (wire w)))) (subst (All (Only w)) (sym z) (x-only w, tt))
       (λ c. ap (λ s. drive O (closed O L w s) c) z ∙ between-x O L w c)
       (one-left (Z (wire w)) (z-only w) (ap busy z)))
 

@@ -9,7 +9,7 @@ use Rattle.gates.specs.declared.Gate.{Gate}
 use Rattle.gates.specs.Gates.{has}
 use Rattle.gates.specs.Records.{kindOf}
 use Rattle.rules.specs.Equal.{seven, isPair}
-use Rattle.rules.proofs.EqualLaws.{and-left, and-right}
+use Rattle.gates.proofs.Joined.{and-left, and-right}
 use Rattle.meaning.proofs.Undo.{selfInverse}
 
 -- Every kind of a list undoes itself.

@@ -11,7 +11,8 @@ use borrow.Author.Tests.{ltb-true, eqb-true}
 use Rattle.rules.specs.Steps.{Cell, Step, inForm, Cut, change, cutAt, act}
 use Rattle.rules.specs.Journal.{replayed, replayFrom}
 use Rattle.rules.proofs.Names.{if, if-h, joined, to-last, to-first, then}
-use Rattle.rules.proofs.EqualLaws.{and-left, and-right, none-not-some}
+use Rattle.gates.proofs.Joined.{and-left, and-right}
+use Rattle.rules.proofs.EqualLaws.{none-not-some}
 use Rattle.rules.proofs.Cuts.{CutAt, AtParts, cut-at-parts}
 use Rattle.rules.proofs.Replays.{Leads, leads, refused-not-replayed, replayed-same}
 

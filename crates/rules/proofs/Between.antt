@@ -9,36 +9,35 @@ use borrow.Author.Tests.{eqb-true}
 use Rattle.gates.specs.declared.Wire.{Wire}
 use Rattle.gates.specs.declared.Gate.{Gate}
 use Rattle.gates.specs.declared.Gate.the-variants.{X, H, S, Sdg, Z, T, Tdg, Cnot, Cz, Ccx, Ccz, Measure, Reset, Y, Sx, Swap, Cy, Ch, Cswap}
+use Rattle.gates.specs.declared.records.Decoded.{Decoded}
+use Rattle.gates.specs.Kinds.{on1, shapes, shapeOf}
 use Rattle.gates.specs.Gates.{wire, wiresOf, has, touches}
-use Rattle.gates.specs.Records.{recordOf, kindOf, isH}
+use Rattle.gates.specs.Records.{recordOf, kindOf, isH, decodedAs, namedBy}
+use Rattle.gates.proofs.RoundTrip.{named-by-record}
 use Rattle.rules.specs.Runs.{Rewrite, rewrite, isHOn, worth, plus, sumOf, byEighths, bySum, loneX, rewriteOf}
 use Rattle.rules.specs.Steps.{Cell, firstOf, all, track}
 use Rattle.rules.specs.Sweeps.{inRun}
-use Rattle.rules.proofs.EqualLaws.{and-left, and-right, neither, none-not-some}
+use Rattle.gates.proofs.Joined.{and-left, and-right, neither}
+use Rattle.rules.proofs.EqualLaws.{none-not-some}
 
 -- ------------------------------------------------------------ an h on a wire
 
+-- A gate of a kind of one wire is that kind on its wire.
+pub of-one-wire : (k : ℕ) (f : Wire → Gate) → shapeOf k ≡ on1 f → ((w : Wire) → wiresOf (f w) ≡ w .0 ∷ []) → (g : Gate) →
+    eqb (kindOf g) k ≡ true → g ≡ f (wire (firstOf (wiresOf g)))
+unfolding namedBy
+of-one-wire k f s ws g h =
+    let r = recordOf g in
+    let e : Decoded.Gate (f (wire (r .first))) ≡ Decoded.Gate g =
+    ap (λ z. decodedAs z (r .first) (r .second) (r .third)) (sym s)
+    ∙ ap (λ n. decodedAs (shapeOf n) (r .first) (r .second) (r .third)) (sym (eqb-true (kindOf g) k h))
+    ∙ named-by-record g in
+    let q : f (wire (r .first)) ≡ g = cc in
+    sym q ∙ ap (λ v. f (wire v)) (ap firstOf (sym (ws (wire (r .first)))) ∙ ap (λ x. firstOf (wiresOf x)) q)
+
 pub is-h : (g : Gate) → isH g ≡ true → g ≡ H (wire (firstOf (wiresOf g)))
-unfolding recordOf wiresOf
-is-h (X w) h = cc
-is-h (H w) h = refl
-is-h (S w) h = cc
-is-h (Sdg w) h = cc
-is-h (Z w) h = cc
-is-h (T w) h = cc
-is-h (Tdg w) h = cc
-is-h (Cnot c t) h = cc
-is-h (Cz c t) h = cc
-is-h (Ccx c d t) h = cc
-is-h (Ccz c d t) h = cc
-is-h (Measure w b) h = cc
-is-h (Reset w) h = cc
-is-h (Y w) h = cc
-is-h (Sx w) h = cc
-is-h (Swap a b) h = cc
-is-h (Cy c t) h = cc
-is-h (Ch c t) h = cc
-is-h (Cswap c a b) h = cc
+unfolding shapeOf shapes wiresOf
+is-h = of-one-wire 1 H refl (λ w. refl)
 
 -- The wire that a step of kind 3 takes from its first h.
 pub h-wire : (w : ℕ) (g : Gate) → isHOn w g ≡ true → firstOf (wiresOf g) ≡ w

@@ -8,7 +8,7 @@ use lib.ListN.{length}
 use Rattle.gates.specs.declared.Gate.{Gate}
 use Rattle.rules.specs.Steps.{Cell, Cut, onto, all, cutAt}
 use Rattle.rules.specs.Sweeps.{cut}
-use Rattle.rules.proofs.EqualLaws.{and-left, and-right}
+use Rattle.gates.proofs.Joined.{and-left, and-right}
 
 module _ {A : Type 0} where
   -- ------------------------------------------------------------ tests of all cells

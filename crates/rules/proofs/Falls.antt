@@ -18,7 +18,8 @@ use Rattle.rules.specs.Steps.{Cell, Step, firstOf, all, track, offWire, 
 use Rattle.rules.specs.Journal.{replayed, replay}
 use Rattle.rules.specs.Loop.{hCount, size, pass}
 use Rattle.rules.proofs.Names.{if, if-h, rewritten}
-use Rattle.rules.proofs.EqualLaws.{and-left, and-right, none-not-some}
+use Rattle.gates.proofs.Joined.{and-left, and-right}
+use Rattle.rules.proofs.EqualLaws.{none-not-some}
 use Rattle.rules.proofs.Replays.{Leads, leads, pass-replays}
 use Rattle.rules.proofs.Between.{Fits, Fit, rewrite-fit}
 use Rattle.rules.proofs.Acts.{whole, if-true, act-parts, along}

@@ -17,7 +17,7 @@ use Rattle.rules.specs.Runs.{isHOn, isXOn, worth, plus, sumOf, rewrite, 
 use Rattle.rules.specs.Steps.{Cell, Cut, andThen, try, when, all, track, onto, change3}
 use Rattle.rules.specs.Sweeps.{Done, idle, stay, fire, cut, inRun, endsRun, xThenH, closed, unclosed, opened, hadamardsFrom, and, hadamardSweep}
 use Rattle.rules.proofs.Names.{kept, rewritten}
-use Rattle.rules.proofs.EqualLaws.{and-left, and-right}
+use Rattle.gates.proofs.Joined.{and-left, and-right}
 use Rattle.rules.proofs.Cuts.{all-append, all-then, Parts, cut-is, cut-here}
 use Rattle.rules.proofs.Between.{is-h, h-wire}
 use Rattle.rules.proofs.NextH.{had-new, had-close, had-open, nextHFrom, nextHSweep}

@@ -17,7 +17,8 @@ use Rattle.rules.specs.Journal.{replayed, replay}
 use Rattle.rules.specs.Sweeps.{Sweep, pairSweep, commutingSweep, hadamardSweep}
 use Rattle.rules.specs.Loop.{pass}
 use Rattle.rules.proofs.Names.{if, rewritten}
-use Rattle.rules.proofs.EqualLaws.{and-left, and-right, equal-parts, cancels-equal, none-not-some}
+use Rattle.gates.proofs.Joined.{and-left, and-right}
+use Rattle.rules.proofs.EqualLaws.{equal-parts, cancels-equal, none-not-some}
 use Rattle.rules.proofs.Cuts.{all-then}
 use Rattle.rules.proofs.Between.{Fits, Fit, rewrite-fit, inside, isReading, inside-no-reading, between-inside, track-every}
 use Rattle.rules.proofs.Replays.{Leads, leads, Replays, pair-replays, hadamard-replays, commuting-replays, pass-replays}

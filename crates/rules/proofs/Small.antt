@@ -9,7 +9,7 @@ use Rattle.gates.specs.Records.{recordOf}
 use Rattle.rules.specs.Equal.{inserted, sorted, ordered, canonical, same, equal, seven, cancels}
 use Rattle.rules.specs.Runs.{worth, sumOf, byEighths, rewriteOf}
 use Rattle.rules.specs.MayPass.{classOf, past}
-use Rattle.rules.specs.Steps.{Cell, track, offWire, putFirst, change}
+use Rattle.rules.specs.Steps.{Cell, gatesOf, track, offWire, putFirst, change}
 use Rattle.rules.specs.Sweeps.{cut, pairsFrom, pairSweep, xThenH, hadamardsFrom, walk, room, tracks, walkPast, commutingFrom, commutingSweep, hadamardSweep}
 use Rattle.rules.specs.Loop.{repeat, hCount, repeated, round, pass}
 
@@ -22,7 +22,7 @@ bare g = record { gate = g; beside = 0 }
 
 unfoldable pub answer : ℕ → List Gate → Answer
 unfolding wiresOf has meet recordOf inserted sorted ordered canonical same equal cancels worth sumOf byEighths rewriteOf classOf past track offWire putFirst change cut pairsFrom pairSweep xThenH hadamardsFrom walk room tracks walkPast commutingFrom commutingSweep repeat hCount repeated hadamardSweep round pass
-answer n l = let d = pass seven n (map bare l) in record { list = map (λ e. e .gate) d.list; walked = d .looks }
+answer n l = let d = pass seven n (map bare l) in record { list = gatesOf d.list; walked = d .looks }
 
 pub record Row : Type 0 where
   pub input : List Gate

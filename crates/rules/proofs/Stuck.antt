@@ -18,7 +18,8 @@ use Rattle.rules.specs.Steps.{Cell, Step, Cut, onto, firstOf, all, track
 use Rattle.rules.specs.Sweeps.{Done, Walk, reached, blocked, short, cut, pairsFrom, pairSweep, walkPast, commutingFrom, commutingSweep, hadamardSweep}
 use Rattle.rules.specs.Loop.{pass, Idle, Quiet}
 use Rattle.rules.proofs.Names.{rewritten, pair-if, pair-with, com-walk, com-with, com-open}
-use Rattle.rules.proofs.EqualLaws.{and-left, and-right, meets-itself, equal-share, cancels-equal, none-not-some}
+use Rattle.gates.proofs.Joined.{and-left, and-right}
+use Rattle.rules.proofs.EqualLaws.{meets-itself, equal-share, cancels-equal, none-not-some}
 use Rattle.rules.proofs.Cuts.{all-then, all-reverse, cut-here}
 use Rattle.rules.proofs.Walks.{Outcome, walk-past-is}
 use Rattle.rules.proofs.Between.{inside, inside-no-h, between-inside, track-every}

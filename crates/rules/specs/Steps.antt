@@ -1,11 +1,11 @@
 -- A step of the journal: what it asks of a list, and what it does to it. Document 01, "Journal".
 use mathlib.Core.Bool.{Bool, true, false, not, cond, _&&_}
-use mathlib.Core.List.{List, [], _∷_, _++_}
+use mathlib.Core.List.{List, [], _∷_, _++_, map}
 use mathlib.Core.Option.{Option, some, none}
 use Prim.Native.Nat.{ℕ, zero, suc, _-_}
 use lib.Dec.{eqb, ltb}
 use Rattle.gates.specs.declared.Gate.{Gate}
-use Rattle.gates.specs.Gates.{wire, wiresOf, touches, shares, Valid}
+use Rattle.gates.specs.Gates.{wire, wiresOf, touches, shares, All, Valid}
 use Rattle.gates.specs.Records.{isH}
 use Rattle.rules.specs.Equal.{equal, cancels, isPair}
 use Rattle.rules.specs.Runs.{rewriteOf, isHOn}
@@ -59,17 +59,12 @@ firstOf (w ∷ l) = w
 module _ {A : Type 0} where
   -- ------------------------------------------------------------ cells
 
-  unfoldable pub gatesOf : List (Cell A) → List Gate
-  gatesOf [] = []
-  gatesOf (e ∷ l) = e .gate ∷ gatesOf l
-
-  abbrev pub AllOf : (Gate → Type 0) → List (Cell A) → Type 0
-  AllOf P [] = Unit {0}
-  AllOf P (e ∷ l) = P (e .gate) × AllOf P l
+  abbrev pub gatesOf : List (Cell A) → List Gate
+  gatesOf l = map (λ e. e .gate) l
 
   -- A valid list on n wires and so many classical bits.
   abbrev pub ValidList : ℕ → ℕ → List (Cell A) → Type 0
-  ValidList n bits l = AllOf (Valid n bits) l
+  ValidList n bits l = All (Valid n bits) (gatesOf l)
 
   abbrev pub all : (Gate → Bool) → List (Cell A) → Bool
   all p [] = true
