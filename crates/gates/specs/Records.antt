@@ -3,7 +3,7 @@ use mathlib.Core.Bool.{Bool, true, cond, _&&_}
 use mathlib.Core.List.{List, [], _∷_, _++_}
 use Prim.Native.Nat.{ℕ, _+_, _*_}
 use lib.Dec.{eqb}
-use lib.ListN.{drop}
+use lib.ListN.{take, drop}
 use Rattle.gates.specs.declared.Gate.{Gate}
 use Rattle.gates.specs.declared.Gate.the-variants.{X, H, S, Sdg, Z, T, Tdg, Cnot, Cz, Ccx, Ccz, Measure, Reset, Y, Sx, Swap, Cy, Ch, Cswap}
 use Rattle.gates.specs.declared.records.Record.{Record}
@@ -32,6 +32,10 @@ recordAt bytes place = recordFrom bytes (16 * place)
 -- "Measure has the wire in word 1 and its classical bit in word 2": of the other kinds only the wires are used.
 unfoldable pub usedOf : ℕ → ℕ
 usedOf kind = cond (eqb kind 12) 2 (wiresIn (shapeOf kind))
+
+-- The words that are wires: as many as the table of kinds says.
+abbrev pub operandWords : Record → List ℕ
+operandWords r = take (wiresIn (shapeOf (r .kind))) (r .first ∷ r .second ∷ r .third ∷ [])
 
 -- What must be zero: bytes 1 to 3 and the unused words.
 unfoldable pub unusedOf : Record → List ℕ

@@ -12,10 +12,10 @@ use Rattle.gates.specs.declared.kinds.Row.{Row}
 use Rattle.gates.specs.declared.records.Record.{Record}
 use Rattle.gates.specs.Kinds.{rowOf}
 use Rattle.gates.specs.Gates.{has, twice}
-use Rattle.gates.specs.Records.{recordAt}
+use Rattle.gates.specs.Records.{recordAt, operandWords}
 use Rattle.gates.proofs.RecordLaws.{one-to-three}
 use Rattle.intake.specs.declared.Tested.{Tested}
-use Rattle.intake.specs.Tests.{Test, position, firstFailing, operandWords, anyOver, recordTests, recordsTests}
+use Rattle.intake.specs.Tests.{Test, position, firstFailing, anyOver, recordTests, recordsTests}
 
 -- ------------------------------------------------------------ room for a journal, by its quotient
 

@@ -14,11 +14,11 @@ use Rattle.gates.specs.declared.Gate.the-variants.{Measure}
 use Rattle.gates.specs.declared.records.Record.{Record}
 use Rattle.gates.specs.declared.records.Decoded.{Decoded}
 use Rattle.gates.specs.Gates.{has, twice, Valid}
-use Rattle.gates.specs.Records.{recordAt, gateOf, recordOf}
+use Rattle.gates.specs.Records.{recordAt, gateOf, recordOf, operandWords}
 use Rattle.gates.proofs.RoundTrip.{encode-decode, wires-words}
 use Rattle.gates.proofs.Joined.{neither}
 use Rattle.intake.specs.declared.Tested.{Tested}
-use Rattle.intake.specs.Tests.{firstFailing, recordsIn, operandWords, anyOver, operandTests, recordTests, recordsTests, listTests}
+use Rattle.intake.specs.Tests.{firstFailing, recordsIn, anyOver, operandTests, recordTests, recordsTests, listTests}
 use Rattle.intake.proofs.TestLaws.{accepted≢refused, first-passes, both-accepted}
 use Rattle.intake.proofs.RecordLaws.{byDecoded, tested}
 

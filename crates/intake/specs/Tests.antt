@@ -3,12 +3,12 @@ use mathlib.Core.Bool.{Bool, false, cond, not, _&&_, _||_}
 use mathlib.Core.List.{List, [], _∷_, _++_}
 use Prim.Native.Nat.{ℕ, zero, suc, _+_, _*_, _/_, _%_}
 use lib.Dec.{eqb, leb, ltb}
-use lib.ListN.{length, take}
+use lib.ListN.{length}
 use Rattle.gates.specs.declared.Position.{Position}
 use Rattle.gates.specs.declared.records.Record.{Record}
-use Rattle.gates.specs.Kinds.{shapeOf, wiresIn, hasAngle}
+use Rattle.gates.specs.Kinds.{shapeOf, hasAngle}
 use Rattle.gates.specs.Gates.{twice}
-use Rattle.gates.specs.Records.{recordAt, unusedOf, allZero}
+use Rattle.gates.specs.Records.{recordAt, operandWords, unusedOf, allZero}
 use Rattle.intake.specs.declared.Tested.{Tested}
 use Rattle.intake.specs.declared.JournalRoom.{JournalRoom}
 use Rattle.intake.specs.declared.Sizes.{Sizes}
@@ -61,9 +61,6 @@ journalTests bytes JournalRoom.NotAsked = []
 journalTests bytes (JournalRoom.Bytes room) = test 6 0 (ltb room (24 * recordsIn bytes)) ∷ []
 
 -- ------------------------------------------------------------ records
-
-abbrev pub operandWords : Record → List ℕ
-operandWords r = take (wiresIn (shapeOf (r .kind))) (r .first ∷ r .second ∷ r .third ∷ [])
 
 unfoldable pub anyOver : ℕ → List ℕ → Bool
 anyOver n [] = false
