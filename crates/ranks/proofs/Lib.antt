@@ -1,0 +1,6 @@
+-- The laws of ranks.
+pub mod SumLaws
+pub mod RegionLaws
+pub mod LevelLaws
+pub mod StoreLaws
+pub mod MarkLaws

@@ -1,0 +1,2 @@
+-- What a reader believes of ranks.
+pub mod Ranks
