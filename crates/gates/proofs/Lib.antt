@@ -5,3 +5,4 @@ pub mod KindLaws
 pub mod WordLaws
 pub mod RecordLaws
 pub mod RoundTrip
+pub mod StoredLaws

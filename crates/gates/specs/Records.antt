@@ -29,6 +29,10 @@ recordFrom bytes at =
 abbrev pub recordAt : List ℕ → ℕ → Record
 recordAt bytes place = recordFrom bytes (16 * place)
 
+-- The record with another kind.
+abbrev pub ofKind : ℕ → Record → Record
+ofKind kind r = record { kind = kind; padding = r .padding; first = r .first; second = r .second; third = r .third }
+
 -- "Measure has the wire in word 1 and its classical bit in word 2": of the other kinds only the wires are used.
 unfoldable pub usedOf : ℕ → ℕ
 usedOf kind = cond (eqb kind 12) 2 (wiresIn (shapeOf kind))
