@@ -4,8 +4,8 @@ use mathlib.Core.Bool.{Bool, true, false}
 use mathlib.Core.List.{List}
 use Prim.Native.Nat.{ℕ, _+_, _≤_, _<_}
 use native.Mathlib.Omega.{arith}
-use lib.Dec.{eqb}
-use borrow.Author.Tests.{eqb-true, eqb-false}
+use lib.Dec.{eqb, ltb}
+use borrow.Author.Tests.{eqb-true, eqb-false, ltb-true, ltb-false}
 use lib.ListN.{length, set, length-set}
 use lib.Seq.{getD-set-same, getD-set-other}
 use Rattle.links.specs.Words.{word, Outside, Within, Cleared}
@@ -31,6 +31,20 @@ within-set at size words x v from to =
   where
     apart : (y : ℕ) → Outside at size y → y ≡ x → ⊥
     apart y o e = omega (arith, e, o (omega (arith, e)))
+
+-- Outside the first so many words is past them.
+pub past-first : (size x : ℕ) → Outside 0 size x → size ≤ x
+past-first size x o = go (ltb x size) refl
+  where
+    go : (b : Bool) → ltb x size ≡ b → size ≤ x
+    go true e = absurd (none (o (inside (ltb-true x size e))))
+      where
+        none : x < 0 → ⊥
+        none l = omega arith
+
+        inside : x < size → x < 0 + size
+        inside l = omega arith
+    go false e = ltb-false x size e
 
 pub cleared-none : (at : ℕ) (words : List ℕ) → Cleared at 0 words words
 cleared-none at words = record { within = within-none at 0 words; zero = λ i l. omega arith }

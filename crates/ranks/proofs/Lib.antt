@@ -4,3 +4,4 @@ pub mod RegionLaws
 pub mod LevelLaws
 pub mod StoreLaws
 pub mod MarkLaws
+pub mod KeepLaws
