@@ -1,0 +1,3 @@
+-- The laws of questions.
+pub mod AskLaws
+pub mod BlockerLaws
