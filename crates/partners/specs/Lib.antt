@@ -1,0 +1,2 @@
+-- What a reader believes of listed pairs.
+pub mod Pairs
