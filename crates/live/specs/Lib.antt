@@ -1,0 +1,3 @@
+-- What a reader believes of the live list.
+pub mod Filling
+pub mod Finished
