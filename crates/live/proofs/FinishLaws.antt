@@ -14,7 +14,7 @@ use Rattle.gates.specs.Records.{recordFrom, recordAt, recordOf, recordBytes}
 use Rattle.gates.specs.Words.{byteAt}
 use Rattle.gates.proofs.StoredLaws.{record-by-bytes, bytes-long}
 use Rattle.rules.specs.Steps.{Cell, gatesOf}
-use Rattle.links.specs.Words.{Cleared}
+use Rattle.links.specs.Words.{Within, Cleared}
 use Rattle.slots.specs.declared.Extent.{Extent}
 use Rattle.slots.specs.Slots.{gateAt, Sound, cellOf, cellsFrom}
 use Rattle.slots.specs.Live.{isLive, held, Loaded}
@@ -26,6 +26,13 @@ use Rattle.slots.proofs.StateLaws.{record-is}
 -- A list is its first elements, those of a region, and those past it.
 parted : (at size : ℕ) (l : List ℕ) → take at l ++ (take size (drop at l) ++ drop (at + size) l) ≡ l
 parted at size l = rw (← (drop-drop size at l), take-append-drop size (drop at l), take-append-drop at l)
+
+-- What lies past a region in which alone words have changed stays.
+pub past-same : (at size : ℕ) (was now : List ℕ) → Within at size was now → drop (at + size) now ≡ drop (at + size) was
+past-same at size was now w =
+    ext-getD 0 (drop (at + size) now) (drop (at + size) was)
+    (length-drop (at + size) now ∙ ap (λ (n : ℕ). n - (at + size)) (w .long) ∙ sym (length-drop (at + size) was))
+    (λ i m. getD-drop (at + size) now i 0 ∙ w .same (at + size + i) (λ l. absurd (omega arith)) ∙ sym (getD-drop (at + size) was i 0))
 
 -- Words that are cleared in a region are those at entry with zeros there.
 module _ (at size : ℕ) (was now : List ℕ) (room : at + size ≤ length was) (cleared : Cleared at size was now) where
@@ -55,15 +62,8 @@ module _ (at size : ℕ) (was now : List ℕ) (room : at + size ≤ length was) 
       below : (i : ℕ) → i < length (take size (drop at now)) → i < size
       below i m = omega (arith, cut)
 
-  past-same : drop (at + size) now ≡ drop (at + size) was
-  past-same =
-      ext-getD 0 (drop (at + size) now) (drop (at + size) was)
-      (length-drop (at + size) now ∙ ap (λ (n : ℕ). n - (at + size)) long-now ∙ sym (length-drop (at + size) was))
-      (λ i m. getD-drop (at + size) now i 0 ∙ cleared .within .same (at + size + i) (λ l. absurd (omega arith))
-      ∙ sym (getD-drop (at + size) was i 0))
-
   pub cleared-zeroed : now ≡ zeroed at size was
-  cleared-zeroed = rw (← before-same, ← region-zero, ← past-same) (sym (parted at size now))
+  cleared-zeroed = rw (← before-same, ← region-zero, ← (past-same at size was now (cleared .within))) (sym (parted at size now))
 
 -- ------------------------------------------------------------ stores in a row
 
@@ -75,7 +75,7 @@ take-sets l vs i n e m =
     long : length (take i l ++ vs) ≡ n
     long = length-append (take i l) vs ∙ ap (λ (x : ℕ). x + length vs) (length-take-le i l (omega (arith, e))) ∙ e
 
-drop-sets : (l vs : List ℕ) (i n : ℕ) → i + length vs ≤ n → drop n (sets l i vs) ≡ drop n l
+pub drop-sets : (l vs : List ℕ) (i n : ℕ) → i + length vs ≤ n → drop n (sets l i vs) ≡ drop n l
 drop-sets l [] i n m = refl
 drop-sets l (v ∷ vs) i n m = drop-sets (set l i v) vs (suc i) n (omega arith) ∙ drop-set-lt n l i v (omega arith)
 

@@ -7,3 +7,5 @@ pub mod LoadCodeLaws
 pub mod DroppedLaws
 pub mod RewriteLaws
 pub mod FinishLaws
+pub mod TrialLaws
+pub mod TriedLaws

@@ -2,3 +2,4 @@
 pub mod change;
 pub mod finish;
 pub mod load;
+pub mod trial;

@@ -3,7 +3,7 @@ ghost use mathlib.Core.Path.{_≡_};
 ghost use mathlib.Core.Bool.{true, not};
 ghost use mathlib.Core.List.{[], _∷_, _++_};
 ghost use Prim.Native.Nat.{ℕ, _+_, _*_, _≤_, _<_};
-ghost use lib.ListN.{length};
+ghost use lib.ListN.{length, drop};
 ghost use Rattle.gates.specs.Gates.{shares, All};
 ghost use Rattle.gates.specs.Records.{recordAt, recordBytes};
 ghost use lib.Seq.{sets};
@@ -11,7 +11,7 @@ ghost use Rattle.rules.specs.Steps.{Cell, all};
 ghost use Rattle.links.specs.Words.{Within};
 ghost use Rattle.slots.specs.Slots.{gateAt, Sound, leftOut};
 ghost use Rattle.slots.specs.Live.{wordsFor, nodesFor, isLive, held, later, Loaded, Forward, Live};
-ghost use Rattle.live.specs.Filling.{FilledTo};
+ghost use Rattle.live.specs.Filling.{FilledTo, wholeList};
 use gates::Position;
 use gates::records;
 use slots::Extent;
@@ -107,4 +107,20 @@ pub fn link(records: &[u8], work: &mut [u32], k: Extent)
 {
     partners::pair_up(records, work, k);
     fill(records, work, k);
+}
+
+// Loads all gates of a list.
+pub fn load_all(records: &mut [u8], work: &mut [u32], k: Extent, list: &[u8])
+    requires { ⌜ (k .gates ≤ 1048576) × (k .wires ≤ 65536) × (16 * k .gates ≤ length (now records)) × (wordsFor k ≤ length (now work)) × (16 * k .gates ≤ length (now list)) ⌝ }
+    requires { ⌜ ((i : ℕ) → i < k .gates → Sound (k .wires) (recordAt (now list) i)) ⌝ }
+    ensures loaded { λ _. ⌜ Loaded (now (records .exit)) (now (work .exit)) k ⌝ }
+    ensures whole { λ _. ⌜ held (now (records .exit)) (now (work .exit)) k ≡ wholeList (now (list .entry)) (k .gates) ⌝ }
+    ensures within { λ _. ⌜ Within 0 (wordsFor k) (now (work .entry)) (now (work .exit)) ⌝ }
+    ensures past { λ _. ⌜ drop (16 * k .gates) (now (records .exit)) ≡ drop (16 * k .gates) (now (records .entry)) ⌝ }
+{
+    begin(records, work, k);
+    for i in 0..k.gates {
+        let place = Position(i as u32);
+        push(records, work, k, Slot(i), list, place);
+    }
 }
