@@ -1,0 +1,185 @@
+//! The live list: a safe face over the proved functions. Each tests what its contract asks; nothing else does.
+
+unsafe extern "C" {
+    fn live_load(
+        records: *mut u8,
+        records_len: usize,
+        work: *mut u32,
+        work_len: usize,
+        gates: usize,
+        wires: usize,
+        list: *const u8,
+        list_len: usize,
+    );
+    fn live_link(
+        records: *const u8,
+        records_len: usize,
+        work: *mut u32,
+        work_len: usize,
+        gates: usize,
+        wires: usize,
+    );
+    fn live_position(
+        records: *const u8,
+        records_len: usize,
+        work: *const u32,
+        work_len: usize,
+        gates: usize,
+        wires: usize,
+        slot: usize,
+    ) -> u32;
+    fn live_slot_at(
+        records: *const u8,
+        records_len: usize,
+        work: *const u32,
+        work_len: usize,
+        gates: usize,
+        wires: usize,
+        position: u32,
+    ) -> usize;
+    fn live_drop(
+        records: *const u8,
+        records_len: usize,
+        work: *mut u32,
+        work_len: usize,
+        gates: usize,
+        wires: usize,
+        slot: usize,
+    );
+    fn live_finish(
+        records: *mut u8,
+        records_len: usize,
+        work: *mut u32,
+        work_len: usize,
+        gates: usize,
+        wires: usize,
+    ) -> usize;
+}
+
+/// A list being worked on, in exactly the room of document 01.
+pub struct Live {
+    pub records: Vec<u8>,
+    pub work: Vec<u32>,
+    gates: usize,
+    wires: usize,
+    gone: Vec<bool>,
+    left: usize,
+    linked: bool,
+}
+
+impl Live {
+    /// Room for a list, filled with numbers that mean nothing.
+    pub fn room(gates: usize, wires: usize) -> Self {
+        assert!(gates <= 1 << 20 && wires <= 65_536);
+        Live {
+            records: vec![0xA5; 16 * gates],
+            work: vec![0xDEAD_BEEF; 16 * gates + 4 * wires],
+            gates,
+            wires,
+            gone: vec![false; gates],
+            left: 0,
+            linked: false,
+        }
+    }
+
+    /// Loads a valid list of as many gates as there is room for.
+    pub fn load(&mut self, bits: usize, list: &[u8]) {
+        assert_eq!(list.len(), 16 * self.gates);
+        debug_assert!(oracle::records::check(self.wires, bits, list).is_ok());
+        let (r, w) = (&mut self.records, &mut self.work);
+        unsafe {
+            live_load(
+                r.as_mut_ptr(),
+                r.len(),
+                w.as_mut_ptr(),
+                w.len(),
+                self.gates,
+                self.wires,
+                list.as_ptr(),
+                list.len(),
+            )
+        }
+        self.gone.fill(false);
+        self.left = self.gates;
+        self.linked = false;
+    }
+
+    pub fn link(&mut self) {
+        let (r, w) = (&self.records, &mut self.work);
+        unsafe {
+            live_link(
+                r.as_ptr(),
+                r.len(),
+                w.as_mut_ptr(),
+                w.len(),
+                self.gates,
+                self.wires,
+            )
+        }
+        self.linked = true;
+    }
+
+    pub fn position(&self, slot: usize) -> u32 {
+        assert!(slot < self.gates);
+        let (r, w) = (&self.records, &self.work);
+        unsafe {
+            live_position(
+                r.as_ptr(),
+                r.len(),
+                w.as_ptr(),
+                w.len(),
+                self.gates,
+                self.wires,
+                slot,
+            )
+        }
+    }
+
+    pub fn slot_at(&self, position: u32) -> usize {
+        assert!((position as usize) < self.left);
+        let (r, w) = (&self.records, &self.work);
+        unsafe {
+            live_slot_at(
+                r.as_ptr(),
+                r.len(),
+                w.as_ptr(),
+                w.len(),
+                self.gates,
+                self.wires,
+                position,
+            )
+        }
+    }
+
+    pub fn drop_slot(&mut self, slot: usize) {
+        assert!(self.linked && !self.gone[slot]);
+        self.gone[slot] = true;
+        self.left -= 1;
+        let (r, w) = (&self.records, &mut self.work);
+        unsafe {
+            live_drop(
+                r.as_ptr(),
+                r.len(),
+                w.as_mut_ptr(),
+                w.len(),
+                self.gates,
+                self.wires,
+                slot,
+            )
+        }
+    }
+
+    pub fn finish(&mut self) -> usize {
+        let (r, w) = (&mut self.records, &mut self.work);
+        unsafe {
+            live_finish(
+                r.as_mut_ptr(),
+                r.len(),
+                w.as_mut_ptr(),
+                w.len(),
+                self.gates,
+                self.wires,
+            )
+        }
+    }
+}

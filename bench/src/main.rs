@@ -1,0 +1,158 @@
+//! Times the live list. One line for each list and size; times are the best of several runs.
+mod live;
+
+use live::Live;
+use oracle::lists::rng::Rng;
+use oracle::lists::{Case, Family, random};
+use std::hint::black_box;
+use std::time::Instant;
+
+const SIZES: [usize; 3] = [10_000, 100_000, 1_000_000];
+const RUNS: usize = 7;
+const ASKED: usize = 100_000;
+
+fn main() {
+    let only_compare = match std::env::args().nth(1).as_deref() {
+        None => false,
+        Some("compare") => true,
+        Some(_) => {
+            eprintln!(
+                "use: bench/run [compare]   (compare: no times, only the comparison with a plain list)"
+            );
+            std::process::exit(2);
+        }
+    };
+    compare(20_000);
+    if only_compare {
+        return;
+    }
+    println!(
+        "| list | gates | wires | copy and zero, ms | load, ms | link, ms | times copy and zero | position, ns | slot at, ns | drop, ns |"
+    );
+    println!("|---|---|---|---|---|---|---|---|---|---|");
+    for family in Family::ALL {
+        for gates in SIZES {
+            if gates <= family.largest() {
+                line(family.name(), &family.make(gates, 1));
+            }
+        }
+    }
+    for (name, kinds) in [
+        ("cnot and cz at random", &[8u8, 9][..]),
+        ("cnot, cz, ccx, ccz at random", &[8, 9, 10, 11]),
+    ] {
+        for gates in SIZES {
+            line(name, &pairs(gates, 4_096, kinds));
+        }
+    }
+}
+
+/// A list of pair gates only, on random wires: the most work for the links between equals.
+fn pairs(gates: usize, wires: usize, kinds: &[u8]) -> Case {
+    let mut rng = Rng::new(7);
+    let mut list = Vec::new();
+    for _ in 0..gates {
+        let kind = rng.pick(kinds);
+        let count = if kind < 10 { 2 } else { 3 };
+        oracle::records::push(&mut list, kind, rng.distinct(count, wires));
+    }
+    Case {
+        wires,
+        bits: 0,
+        list,
+    }
+}
+
+fn best(runs: usize, mut run: impl FnMut() -> f64) -> f64 {
+    (0..runs).map(|_| run()).fold(f64::MAX, f64::min)
+}
+
+fn seconds(run: impl FnOnce()) -> f64 {
+    let start = Instant::now();
+    run();
+    start.elapsed().as_secs_f64()
+}
+
+fn line(name: &str, case: &Case) {
+    let gates = case.list.len() / 16;
+    let mut live = Live::room(gates, case.wires);
+    let floor = best(RUNS, || {
+        seconds(|| {
+            live.records.copy_from_slice(&case.list);
+            live.work.fill(0);
+            black_box((&live.records, &live.work));
+        })
+    });
+    let load = best(RUNS, || seconds(|| live.load(case.bits, &case.list)));
+    let link = best(RUNS, || {
+        live.load(case.bits, &case.list);
+        seconds(|| live.link())
+    });
+    let mut slots: Vec<usize> = (0..gates).collect();
+    Rng::new(3).shuffle(&mut slots);
+    slots.truncate(ASKED);
+    let each = |run: f64| 1e9 * run / slots.len() as f64;
+    let position = each(best(3, || {
+        seconds(|| {
+            for &s in &slots {
+                black_box(live.position(s));
+            }
+        })
+    }));
+    let slot_at = each(best(3, || {
+        seconds(|| {
+            for &s in &slots {
+                black_box(live.slot_at(s as u32));
+            }
+        })
+    }));
+    let dropped = each(best(3, || {
+        live.load(case.bits, &case.list);
+        live.link();
+        seconds(|| slots.iter().for_each(|&s| live.drop_slot(s)))
+    }));
+    println!(
+        "| {name} | {gates} | {} | {:.2} | {:.2} | {:.2} | {:.1} | {position:.0} | {slot_at:.0} | {dropped:.0} |",
+        case.wires,
+        1e3 * floor,
+        1e3 * load,
+        1e3 * link,
+        (load + link) / floor
+    );
+}
+
+/// Positions, slots, drops and the end, against a plain list of slots.
+fn compare(lists: u64) {
+    let mut asked = 0u64;
+    for seed in 0..lists {
+        let case = random(seed);
+        let gates = case.list.len() / 16;
+        let mut live = Live::room(gates, case.wires);
+        live.load(case.bits, &case.list);
+        live.link();
+        let mut model: Vec<usize> = (0..gates).collect();
+        let mut rng = Rng::new(seed);
+        while !model.is_empty() && !rng.once_in(12) {
+            for (position, &slot) in model.iter().enumerate() {
+                assert_eq!(live.position(slot) as usize, position, "seed {seed}");
+                assert_eq!(live.slot_at(position as u32), slot, "seed {seed}");
+                asked += 2;
+            }
+            let slot = model.remove(rng.below(model.len()));
+            live.drop_slot(slot);
+        }
+        assert_eq!(live.finish(), model.len(), "seed {seed}");
+        let mut want: Vec<u8> = model
+            .iter()
+            .flat_map(|&s| case.list[16 * s..16 * s + 16].to_vec())
+            .collect();
+        want.resize(16 * gates, 0);
+        assert!(
+            live.records == want && live.work.iter().all(|&w| w == 0),
+            "seed {seed}"
+        );
+    }
+    println!(
+        "Compared with a plain list of slots: {lists} lists, {asked} questions, no difference.\n"
+    );
+}
