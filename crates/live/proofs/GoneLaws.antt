@@ -1,17 +1,16 @@
 -- A gate goes from a linked list: the rings of its wires and the links to its equals close behind it.
 use mathlib.Core.Path.{_≡_, refl, sym, ap, subst, _∙_}
 use mathlib.Core.Bool.{Bool, true, false, cond, not, _&&_, false≢true}
-use mathlib.Core.List.{List, [], _∷_}
+use mathlib.Core.List.{List}
 use mathlib.Core.Option.{Option, some, none}
 use Prim.Native.Nat.{ℕ, suc, _+_, _-_, _≤_, _<_}
 use native.Mathlib.Omega.{arith}
 use lib.Dec.{eqb}
 use lib.ListN.{length}
 use Rattle.gates.specs.declared.Gate.{Gate}
-use Rattle.gates.specs.Gates.{has}
 use Rattle.gates.proofs.Joined.{and-left, and-right}
 use Rattle.rules.specs.Equal.{equal, isPair}
-use Rattle.rules.proofs.EqualLaws.{equal-parts, is-equal}
+use Rattle.rules.proofs.EqualLaws.{equal-self, equal-turned, equal-same, equal-pair}
 use Rattle.links.specs.Words.{word}
 use Rattle.links.specs.Seek.{latest, earliest, nodeAt, LinkedBack, LinkedOn}
 use Rattle.links.proofs.SeekLaws.{IsLatest, IsEarliest, latest-is, earliest-is, latest-same, earliest-same, without, without-there, without-other, without-itself}
@@ -22,30 +21,6 @@ use Rattle.slots.specs.Live.{pairsAt, pairPrevAt, isLive, equalTo, Partners}
 use Rattle.slots.specs.Nodes.{joinedPast, CanPass}
 use Rattle.slots.proofs.RunLaws.{pass-words, at-slot}
 use Rattle.slots.proofs.StateLaws.{live-below}
-
--- ------------------------------------------------------------ gates that are equal
-
-equal-self : (g : Gate) → equal g g ≡ true
-equal-self g = is-equal g g refl refl
-
-equal-turned : (a b : Gate) → equal a b ≡ true → equal b a ≡ true
-equal-turned a b e = is-equal b a (sym (equal-parts a b e .0)) (sym (equal-parts a b e .1))
-
-equal-both : (a b c : Gate) → equal a b ≡ true → equal b c ≡ true → equal a c ≡ true
-equal-both a b c e f = is-equal a c (equal-parts a b e .0 ∙ equal-parts b c f .0) (equal-parts a b e .1 ∙ equal-parts b c f .1)
-
--- What is equal to one of two equal gates is equal to the other.
-pub equal-same : (a b c : Gate) → equal a b ≡ true → equal a c ≡ equal b c
-equal-same a b c e = go (equal a c) refl (equal b c) refl
-  where
-    go : (x : Bool) → equal a c ≡ x → (y : Bool) → equal b c ≡ y → x ≡ y
-    go true p true q = refl
-    go true p false q = absurd (false≢true (sym q ∙ equal-both b a c (equal-turned a b e) p))
-    go false p true q = absurd (false≢true (sym p ∙ equal-both a b c e q))
-    go false p false q = refl
-
-pub equal-pair : (a b : Gate) → equal a b ≡ true → isPair a ≡ isPair b
-equal-pair a b e = ap (λ (x : ℕ). has x (8 ∷ 9 ∷ 10 ∷ 11 ∷ [])) (equal-parts a b e .0)
 
 -- ------------------------------------------------------------ links to equals
 

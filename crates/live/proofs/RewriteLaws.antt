@@ -21,7 +21,7 @@ use Rattle.slots.specs.Live.{prevAt, isLive, operandOf, nodeOn, endOf, onWire, 
 use Rattle.slots.proofs.HeldLaws.{cells-rewritten}
 use Rattle.slots.proofs.RunLaws.{at-slot}
 use Rattle.slots.proofs.StateLaws.{live-below, gate-is, record-is, wires-small, wires-once}
-use Rattle.live.proofs.GoneLaws.{equal-pair}
+use Rattle.rules.proofs.EqualLaws.{equal-pair}
 use Rattle.live.proofs.DroppedLaws.{partners-carried}
 
 -- A gate of one wire is no cnot, cz, ccx or ccz.

@@ -15,7 +15,7 @@ use Rattle.gates.specs.Gates.{wiresOf, has, twice, All}
 use Rattle.gates.specs.Records.{recordOf, kindOf, operandWords}
 use Rattle.gates.proofs.Joined.{and-left, and-right, neither}
 use Rattle.rules.specs.Equal.{inserted, sorted, ordered, canonical, equal, isPair}
-use Rattle.rules.proofs.EqualLaws.{sorted-up, sorted-down, inserted-first, inserted-second, inserted-third, sorted-has, equal-parts, is-equal}
+use Rattle.rules.proofs.EqualLaws.{sorted-up, sorted-down, inserted-first, inserted-second, inserted-third, sorted-has, equal-parts, is-equal, together}
 use Rattle.partners.specs.declared.Keys.{Keys}
 use Rattle.partners.specs.Pairs.{raised, keys, keysFrom, keysOf}
 
@@ -245,12 +245,6 @@ keys-small n kind ws (ccz a b c e q p s t) = rw (e, q) (omega arith, s, omega ar
 
 -- ------------------------------------------------------------ keys tell equal pairs
 
--- Two tests that pass together are one.
-pub together : (a b : Bool) → (a ≡ true → b ≡ true) → (b ≡ true → a ≡ true) → a ≡ b
-together true b to from = sym (to refl)
-together false true to from = from refl
-together false false to from = refl
-
 -- The test that the sort makes of keys.
 abbrev pub agree : Keys → Keys → Bool
 agree j k = eqb (j .first) (k .first) && (eqb (j .middle) (k .middle) && eqb (j .last) (k .last))
@@ -292,7 +286,3 @@ keys-tell n g h p q = together (agree (keysOf n g) (keysOf n h)) (equal g h) to 
       where
         keys-of : (a b : ℕ) (l m : List ℕ) → a ≡ b → l ≡ m → keysFrom (raised n a) l ≡ keysFrom (raised n b) m
         keys-of a b l m e f = cc
-
--- A gate equal to a pair is a pair.
-pub equal-is-pair : (g h : Gate) → isPair g ≡ true → equal g h ≡ true → isPair h ≡ true
-equal-is-pair g h p t = subst (λ (kind : ℕ). has kind (8 ∷ 9 ∷ 10 ∷ 11 ∷ []) ≡ true) (equal-parts g h t .0) p

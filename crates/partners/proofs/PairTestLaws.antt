@@ -17,7 +17,7 @@ use Rattle.slots.specs.Slots.{gateAt}
 use Rattle.slots.specs.Live.{ranksAt, isLive, Loaded}
 use Rattle.partners.specs.Pairs.{livePair, raised, keysFrom, keysOf}
 use Rattle.slots.proofs.StateLaws.{live-word, record-is, wires-are, operands-small}
-use Rattle.partners.proofs.KeyLaws.{together}
+use Rattle.rules.proofs.EqualLaws.{together}
 
 -- ------------------------------------------------------------ kinds of pairs
 

@@ -18,9 +18,10 @@ use Rattle.slots.specs.declared.Extent.{Extent}
 use Rattle.slots.specs.Slots.{gateAt}
 use Rattle.slots.specs.Live.{pairsAt, isLive, equalTo, Loaded, Partners}
 use Rattle.slots.specs.Keeping.{KeepsLoaded}
+use Rattle.rules.proofs.EqualLaws.{equal-pair}
 use Rattle.partners.specs.Pairs.{livePair, roomFor, ListedTo}
 use Rattle.slots.proofs.StateLaws.{live-below, wires-small, wires-once, all-has, room-enough, keeps-marks, keeps-none, keeps-then, keeps-pairs}
-use Rattle.partners.proofs.KeyLaws.{PairOn, pair-on, keys-small, keys-tell, equal-is-pair}
+use Rattle.partners.proofs.KeyLaws.{PairOn, pair-on, keys-small, keys-tell}
 use Rattle.partners.proofs.ListedLaws.{pairs-below, has-pairs, pairs-ascend}
 
 -- All pairs are listed.
@@ -98,7 +99,7 @@ module _ (bytes words : List ℕ) (k : Extent) (count : ℕ) (l : Loaded bytes w
     where
       other : isPair (gateAt bytes y) ≡ false → (b : Bool) → equal (gateAt bytes x) (gateAt bytes y) ≡ b → false ≡ b
       other off true e =
-          sym off ∙ equal-is-pair (gateAt bytes x) (gateAt bytes y) (and-right (isLive words k x) (isPair (gateAt bytes x)) s) e
+          sym off ∙ sym (equal-pair (gateAt bytes x) (gateAt bytes y) e) ∙ and-right (isLive words k x) (isPair (gateAt bytes x)) s
       other off false e = refl
 
       go : (a : Bool) → isLive words k y ≡ a → (b : Bool) → isPair (gateAt bytes y) ≡ b →

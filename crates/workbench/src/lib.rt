@@ -2,7 +2,7 @@
 ghost use mathlib.Core.Path.{_≡_};
 ghost use mathlib.Core.Bool.{true};
 ghost use mathlib.Core.Option.{some};
-ghost use Prim.Native.Nat.{ℕ, _+_, _*_, _≤_, _<_};
+ghost use Prim.Native.Nat.{ℕ, _*_, _≤_, _<_};
 ghost use lib.ListN.{length, drop};
 ghost use Rattle.gates.specs.Records.{recordAt};
 ghost use Rattle.rules.specs.Steps.{cutAt};
@@ -20,7 +20,13 @@ use slots::Slot;
 
 // Loads a checked list.
 #[no_mangle]
-pub extern "C" fn live_load(records: &mut [u8], work: &mut [u32], gates: usize, wires: usize, list: &[u8])
+pub extern "C" fn live_load(
+    records: &mut [u8],
+    work: &mut [u32],
+    gates: usize,
+    wires: usize,
+    list: &[u8],
+)
     requires { ⌜ (gates ≤ 1048576) × (wires ≤ 65536) × (16 * gates ≤ length (now records)) × (wordsFor (record { gates = gates; wires = wires }) ≤ length (now work)) × (16 * gates ≤ length (now list)) ⌝ }
     requires { ⌜ ((i : ℕ) → i < gates → Sound wires (recordAt (now list) i)) ⌝ }
     ensures loaded { λ _. ⌜ Loaded (now (records .exit)) (now (work .exit)) (record { gates = gates; wires = wires }) ⌝ }
@@ -46,7 +52,13 @@ pub extern "C" fn live_link(records: &[u8], work: &mut [u32], gates: usize, wire
 
 // The position of a slot.
 #[no_mangle]
-pub extern "C" fn live_position(records: &[u8], work: &[u32], gates: usize, wires: usize, slot: usize) -> u32
+pub extern "C" fn live_position(
+    records: &[u8],
+    work: &[u32],
+    gates: usize,
+    wires: usize,
+    slot: usize,
+) -> u32
     requires { ⌜ Loaded (now records) (now work) (record { gates = gates; wires = wires }) ⌝ }
     requires { ⌜ slot < gates ⌝ }
     ensures { λ p. ⌜ p ≡ length (earlier (now (records .entry)) (now (work .entry)) (record { gates = gates; wires = wires }) slot) ⌝ }
@@ -58,7 +70,13 @@ pub extern "C" fn live_position(records: &[u8], work: &[u32], gates: usize, wire
 
 // The slot at a position.
 #[no_mangle]
-pub extern "C" fn live_slot_at(records: &[u8], work: &[u32], gates: usize, wires: usize, position: u32) -> usize
+pub extern "C" fn live_slot_at(
+    records: &[u8],
+    work: &[u32],
+    gates: usize,
+    wires: usize,
+    position: u32,
+) -> usize
     requires { ⌜ Loaded (now records) (now work) (record { gates = gates; wires = wires }) ⌝ }
     requires { ⌜ position < length (held (now records) (now work) (record { gates = gates; wires = wires })) ⌝ }
     ensures { λ s. ⌜ slotOf (cutAt position (held (now (records .entry)) (now (work .entry)) (record { gates = gates; wires = wires }))) ≡ some s ⌝ }
@@ -70,7 +88,13 @@ pub extern "C" fn live_slot_at(records: &[u8], work: &[u32], gates: usize, wires
 
 // Takes a gate out of the list.
 #[no_mangle]
-pub extern "C" fn live_drop(records: &[u8], work: &mut [u32], gates: usize, wires: usize, slot: usize)
+pub extern "C" fn live_drop(
+    records: &[u8],
+    work: &mut [u32],
+    gates: usize,
+    wires: usize,
+    slot: usize,
+)
     requires { ⌜ Live (now records) (now work) (record { gates = gates; wires = wires }) ⌝ }
     requires { ⌜ isLive (now work) (record { gates = gates; wires = wires }) slot ≡ true ⌝ }
     ensures live { λ _. ⌜ Live (now (records .entry)) (now (work .exit)) (record { gates = gates; wires = wires }) ⌝ }
@@ -83,7 +107,12 @@ pub extern "C" fn live_drop(records: &[u8], work: &mut [u32], gates: usize, wire
 
 // Moves what is left to the front and zeroes the rest.
 #[no_mangle]
-pub extern "C" fn live_finish(records: &mut [u8], work: &mut [u32], gates: usize, wires: usize) -> usize
+pub extern "C" fn live_finish(
+    records: &mut [u8],
+    work: &mut [u32],
+    gates: usize,
+    wires: usize,
+) -> usize
     requires { ⌜ Loaded (now records) (now work) (record { gates = gates; wires = wires }) ⌝ }
     ensures left { λ m. ⌜ m ≡ length (held (now (records .entry)) (now (work .entry)) (record { gates = gates; wires = wires })) ⌝ }
     ensures records { λ _. ⌜ now (records .exit) ≡ recordsLeft (now (records .entry)) (now (work .entry)) (record { gates = gates; wires = wires }) ⌝ }
