@@ -1,11 +1,11 @@
 -- What the code that loads asks of its callees, and what their answers come to.
 use mathlib.Core.Path.{_≡_, refl, sym, ap, subst, _∙_}
-use mathlib.Core.Bool.{Bool, true, false, not, _&&_}
+use mathlib.Core.Bool.{Bool, true, false, not}
 use mathlib.Core.List.{List, [], _∷_, _++_}
-use Prim.Native.Nat.{ℕ, suc, _+_, _*_, _-_, _≤_, _<_}
+use Prim.Native.Nat.{ℕ, suc, _+_, _*_, _≤_, _<_}
 use native.Mathlib.Omega.{arith}
 use lib.Dec.{eqb}
-use lib.ListN.{length, getD}
+use lib.ListN.{length}
 use lib.Seq.{sets, length-sets}
 use borrow.Author.Tests.{eqb-false}
 use Rattle.gates.specs.declared.Gate.{Gate}
@@ -14,17 +14,14 @@ use Rattle.gates.specs.Gates.{shares, All}
 use Rattle.gates.specs.Records.{recordAt, gateOf, operandWords, recordBytes}
 use Rattle.gates.specs.Words.{byteAt}
 use Rattle.gates.proofs.StoredLaws.{fitting, stored-here, stored-other}
-use Rattle.rules.specs.Equal.{equal}
 use Rattle.rules.specs.Steps.{Cell, all}
 use Rattle.links.specs.Words.{Within}
-use Rattle.links.specs.Seek.{nodeAt}
 use Rattle.links.proofs.WordLaws.{within-then, within-wider, past-first}
-use Rattle.links.proofs.SeekLaws.{latest-same, earliest-same}
 use Rattle.ranks.specs.Ranks.{Ranks, marks, Marked, Blank}
 use Rattle.ranks.proofs.KeepLaws.{ranks-same}
 use Rattle.slots.specs.declared.Extent.{Extent}
 use Rattle.slots.specs.Slots.{gateIn, gateAt, Sound, leftOut}
-use Rattle.slots.specs.Live.{wordsFor, nodesFor, prevAt, ranksAt, pairsAt, pairPrevAt, isLive, held, later, equalTo, Loaded, Forward, Partners, Live}
+use Rattle.slots.specs.Live.{wordsFor, nodesFor, prevAt, ranksAt, pairsAt, pairPrevAt, isLive, held, later, Loaded, Forward, Partners, Live}
 use Rattle.slots.specs.Nodes.{Closed, takenOff, InRoom}
 use Rattle.slots.specs.Keeping.{KeepsLoaded}
 use Rattle.live.specs.Filling.{FilledTo}
@@ -32,6 +29,7 @@ use Rattle.slots.proofs.HeldLaws.{cells-same}
 use Rattle.slots.proofs.StateLaws.{live-is, live-mark, live-below, live-same, gate-is, known, operands-small, Hangs, hang-within, room-enough, keeps-marks, keeps-loaded, keeps-links, keeps-then}
 use Rattle.live.proofs.ForwardLaws.{filled-more, filled-within}
 use Rattle.live.proofs.LoadLaws.{begin-loaded, begin-empty, free-slot, push-loaded, push-held, push-within}
+use Rattle.live.proofs.DroppedLaws.{partners-kept}
 use Rattle.live.proofs.PopLaws.{take-within, pop-loaded, pop-held, pop-within}
 
 -- ------------------------------------------------------------ an empty list
@@ -216,31 +214,12 @@ filled-slot k bytes was now slot r loaded slot< live read hangs filled =
 pub filled-from : (k : Extent) (bytes words : List ℕ) (i j : ℕ) → i ≡ j → FilledTo bytes words k i → FilledTo bytes words k j
 filled-from k bytes words i j e filled = subst (λ (x : ℕ). FilledTo bytes words k x) e filled
 
--- Partners stay where links forward change.
-pub partners-kept : (bytes was now : List ℕ) (k : Extent) → Within 0 (nodesFor k) was now → Partners bytes was k → Partners bytes now k
-partners-kept bytes was now k kept p =
-    record {
-      back = λ i t u. same (pairPrevAt k + suc i) (omega arith) ∙ p .back i (sym (live i) ∙ t) u
-          ∙ ap (nodeAt suc 0) (latest-same (equalTo bytes was k i) (equalTo bytes now k i) i (λ j m. equals i j));
-      on = λ i t u. same (pairsAt k + suc i) (omega arith) ∙ p .on i (sym (live i) ∙ t) u
-          ∙ ap (nodeAt suc 0) (earliest-same (equalTo bytes was k i) (equalTo bytes now k i) (suc i) (k .gates - suc i) (suc i + (k .gates - suc i)) refl (λ j a b. equals i j));
-    }
-  where
-    live : (i : ℕ) → isLive now k i ≡ isLive was k i
-    live = keeps-marks k was now (keeps-links k was now kept)
-
-    same : (x : ℕ) → nodesFor k ≤ x → getD now x 0 ≡ getD was x 0
-    same x m = kept .same x (λ l. absurd (omega arith))
-
-    equals : (i j : ℕ) → equalTo bytes was k i j ≡ equalTo bytes now k i j
-    equals i j = ap (λ (b : Bool). b && equal (gateAt bytes i) (gateAt bytes j)) (sym (live j))
-
 -- Pairs have been linked, then links forward.
 pub linked : (bytes was paired now : List ℕ) (k : Extent) → Loaded bytes was k → Partners bytes paired k → KeepsLoaded k was paired →
     Forward bytes now k → Within 0 (nodesFor k) paired now →
     Live bytes now k × ((held bytes now k ≡ held bytes was k) × Within 0 (wordsFor k) was now)
 linked bytes was paired now k loaded partners keeps forward kept = (
-  record { loaded = keeps-loaded bytes k was now all-kept loaded; forward = forward; partners = partners-kept bytes paired now k kept partners },
+  record { loaded = keeps-loaded bytes k was now all-kept loaded; forward = forward; partners = pairs-stay },
   (
     cells-same (isLive now k) (isLive was k) (gateAt bytes) (gateAt bytes) 0 (k .gates) (λ j a b. keeps-marks k was now all-kept j) (λ j a b t. refl),
     record { long = all-kept .long; same = λ x o. all-kept .past x (past-first (wordsFor k) x o) },
@@ -249,3 +228,9 @@ linked bytes was paired now k loaded partners keeps forward kept = (
   where
     all-kept : KeepsLoaded k was now
     all-kept = keeps-then k was paired now keeps (keeps-links k paired now kept)
+
+    -- Links between equals stand past the links forward.
+    pairs-stay : Partners bytes now k
+    pairs-stay =
+        partners-kept k bytes paired now (keeps-marks k paired now (keeps-links k paired now kept))
+        (λ i m. kept .same (pairPrevAt k + suc i) (λ l. absurd (omega arith))) (λ i m. kept .same (pairsAt k + suc i) (λ l. absurd (omega arith))) partners
