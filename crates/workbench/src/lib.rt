@@ -80,6 +80,7 @@ pub extern "C" fn live_slot_at(
     requires { ⌜ Loaded (now records) (now work) (record { gates = gates; wires = wires }) ⌝ }
     requires { ⌜ position < length (held (now records) (now work) (record { gates = gates; wires = wires })) ⌝ }
     ensures { λ s. ⌜ slotOf (cutAt position (held (now (records .entry)) (now (work .entry)) (record { gates = gates; wires = wires }))) ≡ some s ⌝ }
+    ensures there { λ s. ⌜ (isLive (now (work .entry)) (record { gates = gates; wires = wires }) s ≡ true) × (s < gates) ⌝ }
 {
     let k = Extent { gates, wires };
     let s = asking::slot_at(records, work, k, Position(position));
