@@ -1,59 +1,25 @@
 //! The live list: a safe face over the proved functions. Each tests what its contract asks; nothing else does.
 
+#[rustfmt::skip]
 unsafe extern "C" {
-    fn live_load(
-        records: *mut u8,
-        records_len: usize,
-        work: *mut u32,
-        work_len: usize,
-        gates: usize,
-        wires: usize,
-        list: *const u8,
-        list_len: usize,
-    );
-    fn live_link(
-        records: *const u8,
-        records_len: usize,
-        work: *mut u32,
-        work_len: usize,
-        gates: usize,
-        wires: usize,
-    );
-    fn live_position(
-        records: *const u8,
-        records_len: usize,
-        work: *const u32,
-        work_len: usize,
-        gates: usize,
-        wires: usize,
-        slot: usize,
-    ) -> u32;
-    fn live_slot_at(
-        records: *const u8,
-        records_len: usize,
-        work: *const u32,
-        work_len: usize,
-        gates: usize,
-        wires: usize,
-        position: u32,
-    ) -> usize;
-    fn live_drop(
-        records: *const u8,
-        records_len: usize,
-        work: *mut u32,
-        work_len: usize,
-        gates: usize,
-        wires: usize,
-        slot: usize,
-    );
-    fn live_finish(
-        records: *mut u8,
-        records_len: usize,
-        work: *mut u32,
-        work_len: usize,
-        gates: usize,
-        wires: usize,
-    ) -> usize;
+    fn live_load(records: *mut u8, records_len: usize, work: *mut u32, work_len: usize, gates: usize, wires: usize, list: *const u8, list_len: usize);
+    fn live_link(records: *const u8, records_len: usize, work: *mut u32, work_len: usize, gates: usize, wires: usize);
+    fn live_position(records: *const u8, records_len: usize, work: *const u32, work_len: usize, gates: usize, wires: usize, slot: usize) -> u32;
+    fn live_slot_at(records: *const u8, records_len: usize, work: *const u32, work_len: usize, gates: usize, wires: usize, position: u32) -> usize;
+    fn live_drop(records: *const u8, records_len: usize, work: *mut u32, work_len: usize, gates: usize, wires: usize, slot: usize);
+    fn live_finish(records: *mut u8, records_len: usize, work: *mut u32, work_len: usize, gates: usize, wires: usize) -> usize;
+}
+
+/// A call that may change what is lent; one that only reads it.
+macro_rules! change {
+    ($of:expr, $function:ident $(, $more:expr)*) => {
+        unsafe { $function($of.records.as_mut_ptr(), $of.records.len(), $of.work.as_mut_ptr(), $of.work.len(), $of.gates, $of.wires $(, $more)*) }
+    };
+}
+macro_rules! ask {
+    ($of:expr, $function:ident, $what:expr) => {
+        unsafe { $function($of.records.as_ptr(), $of.records.len(), $of.work.as_ptr(), $of.work.len(), $of.gates, $of.wires, $what) }
+    };
 }
 
 /// A list being worked on, in exactly the room of document 01.
@@ -82,104 +48,38 @@ impl Live {
         }
     }
 
-    /// Loads a valid list of as many gates as there is room for.
-    pub fn load(&mut self, bits: usize, list: &[u8]) {
+    /// Loads a list of as many gates as there is room for, which has been seen to be valid.
+    pub fn load(&mut self, list: &[u8]) {
         assert_eq!(list.len(), 16 * self.gates);
-        debug_assert!(oracle::records::check(self.wires, bits, list).is_ok());
-        let (r, w) = (&mut self.records, &mut self.work);
-        unsafe {
-            live_load(
-                r.as_mut_ptr(),
-                r.len(),
-                w.as_mut_ptr(),
-                w.len(),
-                self.gates,
-                self.wires,
-                list.as_ptr(),
-                list.len(),
-            )
-        }
+        change!(self, live_load, list.as_ptr(), list.len());
         self.gone.fill(false);
         self.left = self.gates;
         self.linked = false;
     }
 
     pub fn link(&mut self) {
-        let (r, w) = (&self.records, &mut self.work);
-        unsafe {
-            live_link(
-                r.as_ptr(),
-                r.len(),
-                w.as_mut_ptr(),
-                w.len(),
-                self.gates,
-                self.wires,
-            )
-        }
+        change!(self, live_link);
         self.linked = true;
     }
 
     pub fn position(&self, slot: usize) -> u32 {
         assert!(slot < self.gates);
-        let (r, w) = (&self.records, &self.work);
-        unsafe {
-            live_position(
-                r.as_ptr(),
-                r.len(),
-                w.as_ptr(),
-                w.len(),
-                self.gates,
-                self.wires,
-                slot,
-            )
-        }
+        ask!(self, live_position, slot)
     }
 
     pub fn slot_at(&self, position: u32) -> usize {
         assert!((position as usize) < self.left);
-        let (r, w) = (&self.records, &self.work);
-        unsafe {
-            live_slot_at(
-                r.as_ptr(),
-                r.len(),
-                w.as_ptr(),
-                w.len(),
-                self.gates,
-                self.wires,
-                position,
-            )
-        }
+        ask!(self, live_slot_at, position)
     }
 
     pub fn drop_slot(&mut self, slot: usize) {
         assert!(self.linked && !self.gone[slot]);
         self.gone[slot] = true;
         self.left -= 1;
-        let (r, w) = (&self.records, &mut self.work);
-        unsafe {
-            live_drop(
-                r.as_ptr(),
-                r.len(),
-                w.as_mut_ptr(),
-                w.len(),
-                self.gates,
-                self.wires,
-                slot,
-            )
-        }
+        change!(self, live_drop, slot);
     }
 
     pub fn finish(&mut self) -> usize {
-        let (r, w) = (&mut self.records, &mut self.work);
-        unsafe {
-            live_finish(
-                r.as_mut_ptr(),
-                r.len(),
-                w.as_mut_ptr(),
-                w.len(),
-                self.gates,
-                self.wires,
-            )
-        }
+        change!(self, live_finish)
     }
 }

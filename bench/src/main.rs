@@ -74,6 +74,7 @@ fn seconds(run: impl FnOnce()) -> f64 {
 }
 
 fn line(name: &str, case: &Case) {
+    seen_valid(case);
     let gates = case.list.len() / 16;
     let mut live = Live::room(gates, case.wires);
     let floor = best(RUNS, || {
@@ -83,9 +84,9 @@ fn line(name: &str, case: &Case) {
             black_box((&live.records, &live.work));
         })
     });
-    let load = best(RUNS, || seconds(|| live.load(case.bits, &case.list)));
+    let load = best(RUNS, || seconds(|| live.load(&case.list)));
     let link = best(RUNS, || {
-        live.load(case.bits, &case.list);
+        live.load(&case.list);
         seconds(|| live.link())
     });
     let mut slots: Vec<usize> = (0..gates).collect();
@@ -107,7 +108,7 @@ fn line(name: &str, case: &Case) {
         })
     }));
     let dropped = each(best(3, || {
-        live.load(case.bits, &case.list);
+        live.load(&case.list);
         live.link();
         seconds(|| slots.iter().for_each(|&s| live.drop_slot(s)))
     }));
@@ -121,14 +122,20 @@ fn line(name: &str, case: &Case) {
     );
 }
 
+/// What loading asks of a list, tested once and outside the times.
+fn seen_valid(case: &Case) {
+    oracle::records::check(case.wires, case.bits, &case.list).expect("a valid list");
+}
+
 /// Positions, slots, drops and the end, against a plain list of slots.
 fn compare(lists: u64) {
     let mut asked = 0u64;
     for seed in 0..lists {
         let case = random(seed);
+        seen_valid(&case);
         let gates = case.list.len() / 16;
         let mut live = Live::room(gates, case.wires);
-        live.load(case.bits, &case.list);
+        live.load(&case.list);
         live.link();
         let mut model: Vec<usize> = (0..gates).collect();
         let mut rng = Rng::new(seed);
