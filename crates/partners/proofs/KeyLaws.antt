@@ -2,15 +2,15 @@
 use mathlib.Core.Path.{_≡_, refl, sym, ap, subst, _∙_}
 use mathlib.Core.Bool.{Bool, true, false, cond, _&&_, false≢true}
 use mathlib.Core.List.{List, [], _∷_, _++_}
-use Prim.Native.Nat.{ℕ, _+_, _*_, _-_, _<_}
-use native.Mathlib.Nat.{add-zero}
+use Prim.Native.Nat.{ℕ, _+_, _*_, _-_, _%_, _≤_, _<_}
+use native.Mathlib.Nat.{add-zero, zero-mul, one-mul, mul-le-mul-right}
 use native.Mathlib.Omega.{arith}
 use lib.Dec.{eqb, ltb, leb}
 use borrow.Author.Tests.{eqb-true, eqb-false, eq-eqb, ne-eqb, leb-true, leb-false, lt-ltb, le-ltb}
 use Rattle.gates.specs.declared.Gate.{Gate}
 use Rattle.gates.specs.declared.Gate.the-variants.{X, H, S, Sdg, Z, T, Tdg, Cnot, Cz, Ccx, Ccz, Measure, Reset, Y, Sx, Swap, Cy, Ch, Cswap}
 use Rattle.gates.specs.declared.records.Record.{Record}
-use Rattle.gates.specs.Kinds.{shapes, shapeOf}
+use Rattle.gates.specs.Kinds.{shapes, shapeOf, wiresIn}
 use Rattle.gates.specs.Gates.{wiresOf, has, twice, All}
 use Rattle.gates.specs.Records.{recordOf, kindOf, operandWords}
 use Rattle.gates.proofs.Joined.{and-left, and-right, neither}
@@ -104,38 +104,92 @@ three-sorted n a l p d t = go (leb a (t .low)) refl (leb a (t .high)) refl
 
 -- ------------------------------------------------------------ keys in the code
 
--- The keys of each kind; two or three of the words come sorted.
+-- What an odd kind adds to the last key is at most n.
+pub raise-small : (kind n : ℕ) → kind % 2 * n ≤ n
+raise-small kind n = subst (λ (m : ℕ). kind % 2 * n ≤ m) (one-mul n) (mul-le-mul-right n (omega arith))
+
+-- One of two numbers is at most their sum.
+pub either-small : (one : Bool) (a b x : ℕ) → x ≡ cond one a b → x ≤ a + b
+either-small true a b x e = omega (arith, e)
+either-small false a b x e = omega (arith, e)
+
+two-wires : (kind : ℕ) → 8 ≤ kind → kind < 10 → wiresIn (shapeOf kind) ≡ 2
+unfolding shapeOf shapes
+two-wires kind least most = go (eqb kind 8) refl
+  where
+    go : (t : Bool) → eqb kind 8 ≡ t → wiresIn (shapeOf kind) ≡ 2
+    go true e = rw (eqb-true kind 8 e)
+    go false e =
+        let cz : kind ≡ 9 = omega (arith, least, most, eqb-false kind 8 e) in
+        rw cz
+
+three-wires : (kind : ℕ) → 10 ≤ kind → kind ≤ 11 → wiresIn (shapeOf kind) ≡ 3
+unfolding shapeOf shapes
+three-wires kind least most = go (eqb kind 10) refl
+  where
+    go : (t : Bool) → eqb kind 10 ≡ t → wiresIn (shapeOf kind) ≡ 3
+    go true e = rw (eqb-true kind 10 e)
+    go false e =
+        let ccz : kind ≡ 11 = omega (arith, least, most, eqb-false kind 10 e) in
+        rw ccz
+
 module _ (r : Record) (n : ℕ) where
-  pub keys-cnot : r .kind ≡ 8 → keys (r .first) 0 (r .second) ≡ keysFrom (raised n (r .kind)) (ordered (r .kind) (operandWords r))
+  -- The keys of each kind; two or three of the words come sorted.
+  keys-cnot : r .kind ≡ 8 → keys (r .first) 0 (r .second + r .kind % 2 * n) ≡ keysFrom (raised n (r .kind)) (ordered (r .kind) (operandWords r))
   unfolding shapeOf shapes ordered has
-  keys-cnot e = rw (e, add-zero (r .second))
+  keys-cnot e = rw (e, zero-mul n)
 
-  pub keys-cz : (a b : ℕ) → r .kind ≡ 9 → a ∷ b ∷ [] ≡ sorted (r .first ∷ r .second ∷ []) →
-      keys a 0 (b + n) ≡ keysFrom (raised n (r .kind)) (ordered (r .kind) (operandWords r))
+  keys-cz : (a b : ℕ) → r .kind ≡ 9 → a ∷ b ∷ [] ≡ sorted (r .first ∷ r .second ∷ []) →
+      keys a 0 (b + r .kind % 2 * n) ≡ keysFrom (raised n (r .kind)) (ordered (r .kind) (operandWords r))
   unfolding shapeOf shapes ordered has
-  keys-cz a b e s = rw (e, ← s)
+  keys-cz a b e s = rw (e, ← s, one-mul n)
 
-  pub keys-ccx : (a b : ℕ) → r .kind ≡ 10 → a ∷ b ∷ [] ≡ sorted (r .first ∷ r .second ∷ []) →
-      keys a b (r .third) ≡ keysFrom (raised n (r .kind)) (ordered (r .kind) (operandWords r))
+  keys-ccx : (a b : ℕ) → r .kind ≡ 10 → a ∷ b ∷ [] ≡ sorted (r .first ∷ r .second ∷ []) →
+      keys a b (r .third + r .kind % 2 * n) ≡ keysFrom (raised n (r .kind)) (ordered (r .kind) (operandWords r))
   unfolding shapeOf shapes ordered has
-  keys-ccx a b e s = rw (e, ← s, add-zero (r .third))
+  keys-ccx a b e s = rw (e, ← s, zero-mul n)
 
-  pub keys-ccz : (a b c : ℕ) → r .kind ≡ 11 → a ∷ b ∷ c ∷ [] ≡ sorted (r .first ∷ r .second ∷ r .third ∷ []) →
-      keys a b (c + n) ≡ keysFrom (raised n (r .kind)) (ordered (r .kind) (operandWords r))
+  keys-ccz : (a b c : ℕ) → r .kind ≡ 11 → a ∷ b ∷ c ∷ [] ≡ sorted (r .first ∷ r .second ∷ r .third ∷ []) →
+      keys a b (c + r .kind % 2 * n) ≡ keysFrom (raised n (r .kind)) (ordered (r .kind) (operandWords r))
   unfolding shapeOf shapes ordered has
-  keys-ccz a b c e s = rw (e, ← s)
+  keys-ccz a b c e s = rw (e, ← s, one-mul n)
 
-  -- The last of the sorted words is one of them, and below n.
-  pub cz-small : (a b : ℕ) → r .kind ≡ 9 → All (λ w. w < n) (operandWords r) → a ∷ b ∷ [] ≡ sorted (r .first ∷ r .second ∷ []) → b < n
-  unfolding shapeOf shapes
-  cz-small a b e all s =
-      subst (All (λ (w : ℕ). w < n)) (sym s) (all-sorted (λ w. w < n) (r .first ∷ r .second ∷ []) (rw e at all)) .1 .0
+  -- Two wires as the code chooses them: a cnot's as they stand, a cz's sorted.
+  pub keys-two : (a b x y : ℕ) → 8 ≤ r .kind → r .kind < 10 → a ∷ b ∷ [] ≡ sorted (r .first ∷ r .second ∷ []) →
+      x ≡ cond (eqb (r .kind) 8) (r .first) a → y ≡ cond (eqb (r .kind) 8) (r .second) b →
+      keys x 0 (y + r .kind % 2 * n) ≡ keysFrom (raised n (r .kind)) (ordered (r .kind) (operandWords r))
+  keys-two a b x y least most s ex ey = rw (ex, ey) (go (eqb (r .kind) 8) refl)
+    where
+      go : (t : Bool) → eqb (r .kind) 8 ≡ t →
+          keys (cond t (r .first) a) 0 (cond t (r .second) b + r .kind % 2 * n) ≡ keysFrom (raised n (r .kind)) (ordered (r .kind) (operandWords r))
+      go true e = keys-cnot (eqb-true (r .kind) 8 e)
+      go false e = keys-cz a b (omega (arith, least, most, eqb-false (r .kind) 8 e)) s
 
-  pub ccz-small : (a b c : ℕ) → r .kind ≡ 11 → All (λ w. w < n) (operandWords r) →
-      a ∷ b ∷ c ∷ [] ≡ sorted (r .first ∷ r .second ∷ r .third ∷ []) → c < n
-  unfolding shapeOf shapes
-  ccz-small a b c e all s =
-      subst (All (λ (w : ℕ). w < n)) (sym s) (all-sorted (λ w. w < n) (r .first ∷ r .second ∷ r .third ∷ []) (rw e at all)) .1 .1 .0
+  -- Three wires: a ccx's controls sorted and then its target, a ccz's all sorted.
+  pub keys-three : (a b l m h x y z : ℕ) → 10 ≤ r .kind → r .kind ≤ 11 → a ∷ b ∷ [] ≡ sorted (r .first ∷ r .second ∷ []) →
+      l ∷ m ∷ h ∷ [] ≡ sorted (r .first ∷ r .second ∷ r .third ∷ []) → x ≡ cond (eqb (r .kind) 10) a l → y ≡ cond (eqb (r .kind) 10) b m →
+      z ≡ cond (eqb (r .kind) 10) (r .third) h → keys x y (z + r .kind % 2 * n) ≡ keysFrom (raised n (r .kind)) (ordered (r .kind) (operandWords r))
+  keys-three a b l m h x y z least most s u ex ey ez = rw (ex, ey, ez) (go (eqb (r .kind) 10) refl)
+    where
+      go : (t : Bool) → eqb (r .kind) 10 ≡ t →
+          keys (cond t a l) (cond t b m) (cond t (r .third) h + r .kind % 2 * n) ≡
+          keysFrom (raised n (r .kind)) (ordered (r .kind) (operandWords r))
+      go true e = keys-ccx a b (eqb-true (r .kind) 10 e) s
+      go false e = keys-ccz l m h (omega (arith, least, most, eqb-false (r .kind) 10 e)) u
+
+  -- The words are below n, and so are they in order.
+  pub two-small : (a b : ℕ) → 8 ≤ r .kind → r .kind < 10 → All (λ w. w < n) (operandWords r) → a ∷ b ∷ [] ≡ sorted (r .first ∷ r .second ∷ []) →
+      All (λ w. w < n) (r .first ∷ r .second ∷ []) × All (λ w. w < n) (a ∷ b ∷ [])
+  two-small a b least most all s =
+      let words : All (λ (w : ℕ). w < n) (r .first ∷ r .second ∷ []) = rw (two-wires (r .kind) least most) at all in
+      (words, subst (All (λ (w : ℕ). w < n)) (sym s) (all-sorted (λ w. w < n) _ words))
+
+  pub three-small : (a b c : ℕ) → 10 ≤ r .kind → r .kind ≤ 11 → All (λ w. w < n) (operandWords r) →
+      a ∷ b ∷ c ∷ [] ≡ sorted (r .first ∷ r .second ∷ r .third ∷ []) →
+      All (λ w. w < n) (r .first ∷ r .second ∷ r .third ∷ []) × All (λ w. w < n) (a ∷ b ∷ c ∷ [])
+  three-small a b c least most all s =
+      let words : All (λ (w : ℕ). w < n) (r .first ∷ r .second ∷ r .third ∷ []) = rw (three-wires (r .kind) least most) at all in
+      (words, subst (All (λ (w : ℕ). w < n)) (sym s) (all-sorted (λ w. w < n) _ words))
 
 -- ------------------------------------------------------------ what the wires of a pair are
 

@@ -1,5 +1,6 @@
 // Partners: each cnot, cz, ccx and ccz is linked to the equal ones before and after it. Three keys tell equal pairs.
 ghost use mathlib.Core.Path.{_≡_};
+ghost use mathlib.Core.Bool.{cond};
 ghost use Prim.Native.Nat.{_+_, _*_, _≤_, _<_};
 ghost use lib.ListN.{length};
 ghost use Rattle.gates.specs.Gates.{All};
@@ -24,53 +25,43 @@ pub struct Keys {
     pub last: u32,
 }
 
+// One of two numbers, without a branch: lists mix kinds freely.
+fn either(one: bool, a: u32, b: u32) -> u32
+    ensures { λ x. ⌜ x ≡ cond one a b ⌝ }
+{
+    if one { a } else { b }
+}
+
 // The keys of a cnot, cz, ccx or ccz.
 fn keys_of(r: Record, wires: u32) -> Keys
     requires { ⌜ (8 ≤ r .kind) × (r .kind ≤ 11) × (wires ≤ 65536) ⌝ }
     requires { ⌜ All (λ w. w < wires) (operandWords r) ⌝ }
     ensures { λ x. ⌜ x ≡ keysFrom (raised wires (r .kind)) (ordered (r .kind) (operandWords r)) ⌝ }
 {
+    let kind = r.kind;
     let a = Wire(r.first);
     let b = Wire(r.second);
-    let c = Wire(r.third);
-    let kind = r.kind;
-    match kind {
-        8 => Keys {
-            first: r.first,
+    let two = equal::canonical_pair(a, b);
+    let low = two.first;
+    let high = two.second;
+    let raise = (kind % 2) as u32 * wires;
+    if kind < 10 {
+        let plain = kind == 8;
+        return Keys {
+            first: either(plain, r.first, low.0),
             middle: 0,
-            last: r.second,
-        },
-        9 => {
-            let two = equal::canonical_pair(a, b);
-            let low = two.first;
-            let high = two.second;
-            Keys {
-                first: low.0,
-                middle: 0,
-                last: high.0 + wires,
-            }
-        }
-        10 => {
-            let two = equal::canonical_pair(a, b);
-            let low = two.first;
-            let high = two.second;
-            Keys {
-                first: low.0,
-                middle: high.0,
-                last: r.third,
-            }
-        }
-        _ => {
-            let three = equal::canonical_triple(a, b, c);
-            let low = three.first;
-            let middle = three.second;
-            let high = three.third;
-            Keys {
-                first: low.0,
-                middle: middle.0,
-                last: high.0 + wires,
-            }
-        }
+            last: either(plain, r.second, high.0) + raise,
+        };
+    }
+    let three = equal::canonical_triple(a, b, Wire(r.third));
+    let least = three.first;
+    let middle = three.second;
+    let most = three.third;
+    let plain = kind == 10;
+    Keys {
+        first: either(plain, low.0, least.0),
+        middle: either(plain, high.0, middle.0),
+        last: either(plain, r.third, most.0) + raise,
     }
 }
 

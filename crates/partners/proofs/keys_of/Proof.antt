@@ -1,63 +1,92 @@
--- `live::partners::keys_of` meets its contract.
+-- `partners::keys_of` meets its contract.
 use native.Mathlib.Omega.{arith}
+use lib.Dec.{eqb}
 use borrow.Author.Needs.{needs}
-use Rattle.partners.proofs.KeyLaws.{keys-cnot, keys-cz, keys-ccx, keys-ccz, cz-small, ccz-small}
+use Rattle.partners.proofs.KeyLaws.{raise-small, either-small, keys-two, keys-three, two-small, three-small}
 use Rattle.partners.proofs.keys_of.Statement.{statement}
 use Rattle.partners.proofs.keys_of.Tie as tie
+
+-- The answers stand first: where the code chooses wrongly they are what fails.
+returns : tie.Need-returns
+returns c =
+    let two = c .before .before in
+    let pair = two .before .before .before in
+    let start = pair .before in
+    keys-two (start .args .r) (start .args .wires) _ _ _ _ (start .pre .0 .0) (two .if1 .taken) (pair .canonical-pair .ensures)
+    (c .before .either .ensures) (c .either2 .ensures)
+
+returns-2 : tie.Need-returns-2
+returns-2 c =
+    let triple = c .before .before .before .before .before .before in
+    let three = triple .before in
+    let pair = three .before .before .before in
+    let start = pair .before in
+    keys-three (start .args .r) (start .args .wires) _ _ _ _ _ _ _ _ (three .if1 .left) (start .pre .0 .1) (pair .canonical-pair .ensures)
+    (triple .canonical-triple .ensures) (c .before .before .either3 .ensures) (c .before .either4 .ensures) (c .either5 .ensures)
 
 canonical-pair-requires : tie.Need-canonical-pair-requires
 canonical-pair-requires c κs = search needs
 
-add-t18 : tie.Need-add-t18
-add-t18 c =
-    let sorted = c .before .before .before in
-    let start = sorted .before .before in
-    omega (arith, start .pre .0, cz-small (start .args .r) (start .args .wires) _ _ (sorted .before .match .keys2) (start .pre .1) (sorted .canonical-pair .ensures))
+cast-raise : tie.Need-cast-raise
+cast-raise c = search needs
 
-canonical-pair-requires-2 : tie.Need-canonical-pair-requires-2
-canonical-pair-requires-2 c κs = search needs
+mul-raise : tie.Need-mul-raise
+mul-raise c =
+    let start = c .before .before .before in
+    omega (arith, start .pre .0, raise-small (start .args .r .kind) (start .args .wires))
+
+either-requires : tie.Need-either-requires
+either-requires c κs = search needs
+
+either-requires-2 : tie.Need-either-requires-2
+either-requires-2 c κs = search needs
+
+add-t21 : tie.Need-add-t21
+add-t21 c =
+    let two = c .before .before in
+    let pair = two .before .before .before in
+    let start = pair .before in
+    let r = start .args .r in
+    let wires = start .args .wires in
+    let small = two-small r wires _ _ (start .pre .0 .0) (two .if1 .taken) (start .pre .1) (pair .canonical-pair .ensures) in
+    omega (arith, start .pre .0, small, either-small (eqb (r .kind) 8) _ _ _ (c .either2 .ensures), raise-small (r .kind) wires)
 
 canonical-triple-requires : tie.Need-canonical-triple-requires
 canonical-triple-requires c κs = search needs
 
-add-t19 : tie.Need-add-t19
-add-t19 c =
-    let sorted = c .before .before .before .before in
-    let start = sorted .before .before in
-    omega
-    (arith, start .pre .0, ccz-small (start .args .r) (start .args .wires) _ _ _ (omega arith) (start .pre .1) (sorted .canonical-triple .ensures))
+either-requires-3 : tie.Need-either-requires-3
+either-requires-3 c κs = search needs
 
-returns : tie.Need-returns
-returns c = keys-cnot (c .before .args .r) (c .before .args .wires) (c .match .keys1)
+either-requires-4 : tie.Need-either-requires-4
+either-requires-4 c κs = search needs
 
-returns-2 : tie.Need-returns-2
-returns-2 c =
-    let sorted = c .before .before .before in
-    let start = sorted .before .before in
-    keys-cz (start .args .r) (start .args .wires) _ _ (sorted .before .match .keys2) (sorted .canonical-pair .ensures)
+either-requires-5 : tie.Need-either-requires-5
+either-requires-5 c κs = search needs
 
-returns-3 : tie.Need-returns-3
-returns-3 c =
-    let sorted = c .before .before in
-    let start = sorted .before .before in
-    keys-ccx (start .args .r) (start .args .wires) _ _ (sorted .before .match .keys3) (sorted .canonical-pair2 .ensures)
-
-returns-4 : tie.Need-returns-4
-returns-4 c =
-    let sorted = c .before .before .before .before in
-    let start = sorted .before .before in
-    keys-ccz (start .args .r) (start .args .wires) _ _ _ (omega arith) (sorted .canonical-triple .ensures)
+add-t25 : tie.Need-add-t25
+add-t25 c =
+    let triple = c .before .before .before .before .before .before in
+    let three = triple .before in
+    let start = three .before .before .before .before in
+    let r = start .args .r in
+    let wires = start .args .wires in
+    let small = three-small r wires _ _ _ (three .if1 .left) (start .pre .0 .1) (start .pre .1) (triple .canonical-triple .ensures) in
+    omega (arith, start .pre .0, small, either-small (eqb (r .kind) 10) _ _ _ (c .either5 .ensures), raise-small (r .kind) wires)
 
 pub keys-of-spec : {M : Type 1} → statement M
 keys-of-spec =
     tie.close
     (tie.spec
     canonical-pair-requires
-    add-t18
-    canonical-pair-requires-2
-    canonical-triple-requires
-    add-t19
+    cast-raise
+    mul-raise
+    either-requires
+    either-requires-2
+    add-t21
     returns
-    returns-2
-    returns-3
-    returns-4)
+    canonical-triple-requires
+    either-requires-3
+    either-requires-4
+    either-requires-5
+    add-t25
+    returns-2)
