@@ -42,7 +42,7 @@ pub fn is_live(records: &[u8], work: &[u32], k: Extent, slot: Slot) -> bool
     requires { ⌜ slot .0 < k .gates ⌝ }
     ensures { λ r. ⌜ r ≡ isLive (now (work .entry)) k (slot .0) ⌝ }
 {
-    work[2 * (3 * k.gates + k.wires) + slot.0] == 1
+    ranks::is_marked(work, 2 * (3 * k.gates + k.wires), k.gates, slot.0)
 }
 
 // The latest gate before a slot on the wire of one of its operands.
@@ -143,7 +143,8 @@ pub fn partner(records: &[u8], work: &[u32], k: Extent, slot: Slot) -> Found
     ensures { λ r. ⌜ r ≡ found (slotOf (cut (equal (gateAt (now (records .entry)) (slot .0))) (later (now (records .entry)) (now (work .entry)) k (slot .0)))) ⌝ }
 {
     let g = k.gates;
-    let pairs = 2 * (3 * g + k.wires) + (g + (g / 32 + 1) + (g / 1024 + 1) + (g / 32768 + 1));
+    let pairs = 2 * (3 * g + k.wires)
+        + ((g / 32 + 1) + (g / 32 + 1) + (g / 1024 + 1) + (g / 32768 + 1));
     let node = work[pairs + slot.0 + 1] as usize;
     if node == 0 {
         Found::Nothing

@@ -2,7 +2,7 @@
 use mathlib.Core.Path.{_≡_, refl, sym, ap, subst, _∙_}
 use mathlib.Core.Bool.{Bool, true, false, cond, not, _&&_, false≢true}
 use mathlib.Core.List.{List, [], _∷_}
-use Prim.Native.Nat.{ℕ, suc, _+_, _*_, _-_, _≤_, _<_}
+use Prim.Native.Nat.{ℕ, suc, _+_, _*_, _-_, _≤_, _<_, _/_}
 use native.Mathlib.Omega.{arith}
 use lib.Dec.{eqb}
 use lib.ListN.{length, getD, set}
@@ -170,7 +170,7 @@ module _ (k : Extent) (bytes was : List ℕ) (slot : ℕ) (live : isLive was k s
       ranks-kept : (x : ℕ) → ranksAt k ≤ x → x < pairsAt k → getD unpaired x 0 ≡ getD was x 0
       ranks-kept x a b = unpaired-below x b ∙ passed-kept .same x (λ l. absurd (omega (arith, a, l)))
 
-      marks-kept : (x : ℕ) → ranksAt k ≤ x → x < ranksAt k + k .gates → getD unpaired x 0 ≡ getD was x 0
+      marks-kept : (x : ℕ) → ranksAt k ≤ x → x < ranksAt k + (k .gates / 32 + 1) → getD unpaired x 0 ≡ getD was x 0
       marks-kept x a b = ranks-kept x a (omega (arith, b))
 
       -- What taking the mark out asks.

@@ -2,7 +2,7 @@
 use mathlib.Core.Path.{_≡_, refl, sym, ap, subst, _∙_}
 use mathlib.Core.Bool.{Bool, true, false, not, cond, _&&_, _||_, false≢true}
 use mathlib.Core.List.{List, [], _∷_}
-use Prim.Native.Nat.{ℕ, suc, _+_, _*_, _-_, _≤_, _<_}
+use Prim.Native.Nat.{ℕ, suc, _+_, _*_, _-_, _≤_, _<_, _/_}
 use native.Mathlib.Omega.{arith}
 use lib.Dec.{eqb, ltb}
 use lib.ListN.{length, getD, set}
@@ -63,7 +63,7 @@ take-within bytes was now k side slot sound e =
 
 -- Marks of the same slots but one.
 module _ (k : Extent) (bytes was between now : List ℕ) (slot : ℕ) (live : isLive was k slot ≡ true)
-    (kept : (x : ℕ) → ranksAt k ≤ x → x < ranksAt k + k .gates → getD between x 0 ≡ getD was x 0)
+    (kept : (x : ℕ) → ranksAt k ≤ x → x < ranksAt k + (k .gates / 32 + 1) → getD between x 0 ≡ getD was x 0)
     (marked : Marked (ranksAt k) (k .gates) slot 0 between now) where
   pub live-then : (i : ℕ) → (i ≡ slot → ⊥) → isLive now k i ≡ isLive was k i
   live-then i d =
@@ -117,7 +117,7 @@ module _ (k : Extent) (bytes was off now : List ℕ) (slot : ℕ) (live : isLive
   off-kept : Within (prevAt k) (nodesFor k) was off
   off-kept = take-within bytes was off k (prevAt k) slot (loaded .sound slot live) taken
 
-  marks-kept : (x : ℕ) → ranksAt k ≤ x → x < ranksAt k + k .gates → getD off x 0 ≡ getD was x 0
+  marks-kept : (x : ℕ) → ranksAt k ≤ x → x < ranksAt k + (k .gates / 32 + 1) → getD off x 0 ≡ getD was x 0
   marks-kept x a b = off-kept .same x (λ l. absurd (omega arith))
 
   -- No later gate is on one of its wires.

@@ -24,7 +24,8 @@ fn unpair(work: &mut [u32], k: Extent, slot: usize, kind: u8)
     ensures { λ _. ⌜ now (work .exit) ≡ cond (has kind (8 ∷ 9 ∷ 10 ∷ 11 ∷ [])) (joinedPast (pairsAt k) (pairPrevAt k) (slot + 1) (now (work .entry))) (now (work .entry)) ⌝ }
 {
     let g = k.gates;
-    let pairs = 2 * (3 * g + k.wires) + (g + (g / 32 + 1) + (g / 1024 + 1) + (g / 32768 + 1));
+    let pairs = 2 * (3 * g + k.wires)
+        + ((g / 32 + 1) + (g / 32 + 1) + (g / 1024 + 1) + (g / 32768 + 1));
     if (8 <= kind) & (kind <= 11) {
         links::unlink(work, pairs, pairs + (g + 1), slot + 1);
     }

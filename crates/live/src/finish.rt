@@ -30,7 +30,7 @@ fn keep_slot(records: &mut [u8], work: &[u32], k: Extent, slot: usize, kept: usi
     ensures moved { λ _. ⌜ now (records .exit) ≡ cond (isLive (now (work .entry)) k slot) (sets (now (records .entry)) (16 * kept) (recordBytes (recordAt (now (records .entry)) slot))) (now (records .entry)) ⌝ }
     ensures counted { λ n. ⌜ n ≡ cond (isLive (now (work .entry)) k slot) (kept + 1) kept ⌝ }
 {
-    if work[2 * (3 * k.gates + k.wires) + slot] == 1 {
+    if ranks::is_marked(work, 2 * (3 * k.gates + k.wires), k.gates, slot) {
         let r = records::record_at(records, Position(slot as u32));
         records::put_record(records, Position(kept as u32), r);
         kept + 1

@@ -78,7 +78,7 @@ fn fill_slot(records: &[u8], work: &mut [u32], k: Extent, slot: usize)
     ensures filled { λ _. ⌜ FilledTo (now (records .entry)) (now (work .exit)) k slot ⌝ }
     ensures within { λ _. ⌜ Within 0 (nodesFor k) (now (work .entry)) (now (work .exit)) ⌝ }
 {
-    if work[2 * (3 * k.gates + k.wires) + slot] == 1 {
+    if ranks::is_marked(work, 2 * (3 * k.gates + k.wires), k.gates, slot) {
         let r = records::record_at(records, Position(slot as u32));
         nodes::hang(work, 0, k, r, slot);
     }

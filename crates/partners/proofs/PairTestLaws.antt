@@ -2,10 +2,9 @@
 use mathlib.Core.Path.{_≡_, refl, sym, ap, subst, _∙_}
 use mathlib.Core.Bool.{Bool, true, false, _&&_, _||_, false≢true}
 use mathlib.Core.List.{List, [], _∷_}
-use Prim.Native.Nat.{ℕ, _+_, _≤_, _<_}
+use Prim.Native.Nat.{ℕ, _≤_, _<_}
 use native.Mathlib.Omega.{arith}
 use lib.Dec.{eqb, leb}
-use lib.ListN.{getD}
 use borrow.Author.Tests.{eqb-true, eqb-false, leb-true, le-leb}
 use Rattle.gates.specs.declared.records.Record.{Record}
 use Rattle.gates.specs.Gates.{has, wiresOf, All}
@@ -14,9 +13,9 @@ use Rattle.gates.proofs.Joined.{and-left, and-right}
 use Rattle.rules.specs.Equal.{ordered, canonical, isPair}
 use Rattle.slots.specs.declared.Extent.{Extent}
 use Rattle.slots.specs.Slots.{gateAt}
-use Rattle.slots.specs.Live.{ranksAt, isLive, Loaded}
+use Rattle.slots.specs.Live.{isLive, Loaded}
 use Rattle.partners.specs.Pairs.{livePair, raised, keysFrom, keysOf}
-use Rattle.slots.proofs.StateLaws.{live-word, record-is, wires-are, operands-small}
+use Rattle.slots.proofs.StateLaws.{record-is, wires-are, operands-small}
 use Rattle.rules.proofs.EqualLaws.{together}
 
 -- ------------------------------------------------------------ kinds of pairs
@@ -60,35 +59,36 @@ between-is kind = together (leb 8 kind && leb kind 11) (has kind (8 ∷ 9 ∷ 10
 
 -- ------------------------------------------------------------ the test
 
--- What the code tests of a slot: its mark and the kind in its record.
-abbrev pub tested : List ℕ → Extent → ℕ → Record → Bool
-tested words k slot r = (eqb (getD words (ranksAt k + slot) 0) 1 && leb 8 (r .kind)) && leb (r .kind) 11
+-- What the code tests of a slot: whether it is live, and the kind in its record.
+abbrev pub tested : Bool → Record → Bool
+tested live r = (live && leb 8 (r .kind)) && leb (r .kind) 11
 
-module _ (bytes words : List ℕ) (k : Extent) (slot : ℕ) (r : Record) (l : Loaded bytes words k) (inside : slot < k .gates) (e : r ≡ recordAt bytes slot) where
+module _ (bytes words : List ℕ) (k : Extent) (slot : ℕ) (r : Record) (l : Loaded bytes words k) (live : Bool) (m : live ≡ isLive words k slot)
+    (e : r ≡ recordAt bytes slot) where
   kind-at : isLive words k slot ≡ true → r .kind ≡ kindOf (gateAt bytes slot)
   kind-at t = ap (λ (x : Record). x .kind) (e ∙ sym (record-is (k .wires) bytes slot (l .sound slot t)))
 
   -- The record of a live slot is that of its gate, so its kind tells whether that is a pair.
-  pub tested-is : tested words k slot r ≡ livePair bytes words k slot
+  pub tested-is : tested live r ≡ livePair bytes words k slot
   tested-is =
-      ap (λ (b : Bool). (b && leb 8 (r .kind)) && leb (r .kind) 11) (sym (live-word words k slot inside))
+      ap (λ (b : Bool). (b && leb 8 (r .kind)) && leb (r .kind) 11) m
       ∙ go (isLive words k slot) refl
     where
       go : (b : Bool) → isLive words k slot ≡ b → (b && leb 8 (r .kind)) && leb (r .kind) 11 ≡ b && isPair (gateAt bytes slot)
       go true t = between-is (r .kind) ∙ ap (λ (x : ℕ). has x (8 ∷ 9 ∷ 10 ∷ 11 ∷ [])) (kind-at t)
       go false t = refl
 
-  module _ (t : tested words k slot r ≡ true) where
+  module _ (t : tested live r ≡ true) where
     is-live : isLive words k slot ≡ true
     is-live = and-left (isLive words k slot) (isPair (gateAt bytes slot)) (sym tested-is ∙ t)
 
     -- What making keys asks of the record.
     pub keys-ask : ((8 ≤ r .kind) × (r .kind ≤ 11) × (k .wires ≤ 65536)) × All (λ w. w < k .wires) (operandWords r)
     keys-ask =
-        let kinds = and-left (eqb (getD words (ranksAt k + slot) 0) 1 && leb 8 (r .kind)) (leb (r .kind) 11) t in (
+        let kinds = and-left (live && leb 8 (r .kind)) (leb (r .kind) 11) t in (
           (
-            leb-true 8 (r .kind) (and-right (eqb (getD words (ranksAt k + slot) 0) 1) (leb 8 (r .kind)) kinds),
-            leb-true (r .kind) 11 (and-right (eqb (getD words (ranksAt k + slot) 0) 1 && leb 8 (r .kind)) (leb (r .kind) 11) t),
+            leb-true 8 (r .kind) (and-right live (leb 8 (r .kind)) kinds),
+            leb-true (r .kind) 11 (and-right (live && leb 8 (r .kind)) (leb (r .kind) 11) t),
             l .narrow,
           ),
           rw e (operands-small (k .wires) bytes slot (l .sound slot is-live)),

@@ -92,7 +92,7 @@ fn list_slot(
 {
     let r = records::record_at(records, Position(slot as u32));
     let kind = r.kind;
-    let live = work[2 * (3 * k.gates + k.wires) + slot] == 1;
+    let live = ranks::is_marked(work, 2 * (3 * k.gates + k.wires), k.gates, slot);
     if live & (8 <= kind) & (kind <= 11) {
         put_keys(work, slot, keys_of(r, k.wires as u32), list + count);
         count + 1
@@ -125,7 +125,8 @@ pub fn pair_up(records: &[u8], work: &mut [u32], k: Extent)
     if g == 0 {
         return;
     }
-    let base = 2 * (3 * g + k.wires) + (g + (g / 32 + 1) + (g / 1024 + 1) + (g / 32768 + 1));
+    let base = 2 * (3 * g + k.wires)
+        + ((g / 32 + 1) + (g / 32 + 1) + (g / 1024 + 1) + (g / 32768 + 1));
     let count = list_pairs(records, work, k, base + 2 * (g + 1));
     order::pair_up(
         work,

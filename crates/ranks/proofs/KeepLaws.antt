@@ -1,15 +1,16 @@
 -- Ranks stay where the words of their region stay.
-use mathlib.Core.Path.{_≡_, refl, sym, subst, _∙_}
+use mathlib.Core.Path.{_≡_, refl, sym, ap, subst, _∙_}
 use mathlib.Core.Bool.{Bool, true, false, cond}
 use mathlib.Core.List.{List}
-use Prim.Native.Nat.{ℕ, _+_, _*_, _/_, _≤_, _<_}
+use Prim.Native.Nat.{ℕ, _+_, _*_, _/_, _%_, _≤_, _<_}
 use native.Mathlib.Omega.{arith}
 use lib.Dec.{ltb}
 use lib.ListN.{length, getD}
 use borrow.Author.Tests.{ltb-true}
 use Rattle.links.specs.Words.{word}
-use Rattle.ranks.specs.Ranks.{region, sizeFor, sums32At, sums1024At, sums32768At, marks, sums32, sums1024, sums32768, SumsOf, Ranks}
+use Rattle.ranks.specs.Ranks.{bit, region, sizeFor, sums32At, sums1024At, sums32768At, marks, sums32, sums1024, sums32768, SumsOf, Ranks}
 use Rattle.ranks.proofs.SumLaws.{below-same}
+use Rattle.ranks.proofs.RegionLaws.{marks-same}
 
 region-same : (was now : List ℕ) (at size : ℕ) → ((x : ℕ) → at ≤ x → x < at + size → getD now x 0 ≡ getD was x 0) → (i : ℕ) →
     region now at size i ≡ region was at size i
@@ -24,7 +25,7 @@ sums-same low low′ up up′ e f h j = below-same up′ up j (λ i m. f i) ∙ 
 
 pub ranks-same : (was now : List ℕ) (at slots : ℕ) → length now ≡ length was →
     ((x : ℕ) → at ≤ x → x < at + sizeFor slots → getD now x 0 ≡ getD was x 0) → Ranks was at slots → Ranks now at slots
-unfolding marks sums32 sums1024 sums32768
+unfolding sums32 sums1024 sums32768
 ranks-same was now at slots long same r =
     record {
       within = subst (λ (x : ℕ). at + sizeFor slots ≤ x) (sym long) (r .within);
@@ -36,7 +37,7 @@ ranks-same was now at slots long same r =
     }
   where
     by0 : (i : ℕ) → marks now at slots i ≡ marks was at slots i
-    by0 = region-same was now at slots (λ x a b. same x a (omega arith))
+    by0 i = marks-same now was at slots i (λ l. ap (λ (x : ℕ). bit x (i % 32)) (same (at + i / 32) (omega arith) (omega (arith, l))))
 
     by1 : (i : ℕ) → sums32 now at slots i ≡ sums32 was at slots i
     by1 = region-same was now (at + sums32At slots) (slots / 32 + 1) (λ x a b. same x (omega arith) (omega arith))

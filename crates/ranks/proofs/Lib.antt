@@ -1,4 +1,5 @@
 -- The laws of ranks.
+pub mod BitLaws
 pub mod SumLaws
 pub mod RegionLaws
 pub mod LevelLaws

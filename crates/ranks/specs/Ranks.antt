@@ -1,11 +1,15 @@
--- Ranks: marks of slots, 0 or 1, and the sums of marks in blocks of 32, 1,024 and 32,768 slots.
+-- Ranks: marks of slots, a bit each, and the sums of marks in blocks of 32, 1,024 and 32,768 slots.
 use mathlib.Core.Path.{_≡_}
 use mathlib.Core.Bool.{cond}
 use mathlib.Core.List.{List}
-use Prim.Native.Nat.{ℕ, zero, suc, _+_, _*_, _/_, _≤_}
+use Prim.Native.Nat.{ℕ, zero, suc, _+_, _*_, _/_, _%_, _^_, _≤_}
 use lib.Dec.{eqb, ltb}
 use lib.ListN.{length}
 use Rattle.links.specs.Words.{word, Within}
+
+-- A bit of a word.
+abbrev pub bit : ℕ → ℕ → ℕ
+bit word i = word / 2 ^ i % 2
 
 -- The sum of the first so many.
 unfoldable pub below : (ℕ → ℕ) → ℕ → ℕ
@@ -19,7 +23,7 @@ abbrev pub region : List ℕ → ℕ → ℕ → ℕ → ℕ
 region words at size i = cond (ltb i size) (word words at i) 0
 
 abbrev pub sums32At : ℕ → ℕ
-sums32At slots = slots
+sums32At slots = slots / 32 + 1
 
 abbrev pub sums1024At : ℕ → ℕ
 sums1024At slots = sums32At slots + (slots / 32 + 1)
@@ -31,8 +35,9 @@ sums32768At slots = sums1024At slots + (slots / 1024 + 1)
 abbrev pub sizeFor : ℕ → ℕ
 sizeFor slots = sums32768At slots + (slots / 32768 + 1)
 
+-- Each word has the marks of 32 slots, the lowest bit that of the first.
 unfoldable pub marks : List ℕ → ℕ → ℕ → ℕ → ℕ
-marks words at slots = region words at slots
+marks words at slots i = cond (ltb i slots) (bit (word words at (i / 32)) (i % 32)) 0
 
 unfoldable pub sums32 : List ℕ → ℕ → ℕ → ℕ → ℕ
 sums32 words at slots = region words (at + sums32At slots) (slots / 32 + 1)

@@ -2,7 +2,7 @@
 use mathlib.Core.Path.{_≡_, refl, sym, ap, subst, _∙_}
 use mathlib.Core.Bool.{Bool, true, false, _&&_, _||_}
 use mathlib.Core.List.{List, [], _∷_}
-use Prim.Native.Nat.{ℕ, _+_, _*_, _-_, _≤_, _<_}
+use Prim.Native.Nat.{ℕ, _+_, _*_, _-_, _/_, _%_, _≤_, _<_}
 use native.Mathlib.Omega.{arith}
 use lib.Dec.{eqb, ltb}
 use lib.ListN.{length, getD}
@@ -16,9 +16,9 @@ use Rattle.gates.proofs.RecordLaws.{known-kind}
 use Rattle.gates.proofs.RoundTrip.{wires-words, encode-decode}
 use Rattle.links.specs.Words.{word, Within}
 use Rattle.links.proofs.WordLaws.{within-then, within-wider}
-use Rattle.ranks.specs.Ranks.{marks}
+use Rattle.ranks.specs.Ranks.{bit, marks}
 use Rattle.ranks.proofs.KeepLaws.{ranks-same}
-use Rattle.ranks.proofs.RegionLaws.{region-in, region-past}
+use Rattle.ranks.proofs.RegionLaws.{mark-past, marks-same}
 use Rattle.slots.specs.declared.Extent.{Extent}
 use Rattle.slots.specs.Slots.{gateIn, gateAt, Sound}
 use Rattle.slots.specs.Live.{wordsFor, nodesFor, prevAt, ranksAt, pairsAt, isLive, onWire, Loaded, Forward}
@@ -29,14 +29,6 @@ use Rattle.slots.proofs.RingsLaws.{Back, Ahead, kept-back, kept-last}
 use Rattle.slots.proofs.RunLaws.{Run, hung-within}
 
 -- ------------------------------------------------------------ marks
-
-pub mark-in : (words : List ℕ) (k : Extent) (i : ℕ) → i < k .gates → marks words (ranksAt k) (k .gates) i ≡ word words (ranksAt k) i
-unfolding marks
-mark-in words k i m = region-in words (ranksAt k) (k .gates) i m
-
-mark-past : (words : List ℕ) (k : Extent) (i : ℕ) → k .gates ≤ i → marks words (ranksAt k) (k .gates) i ≡ 0
-unfolding marks
-mark-past words k i m = region-past words (ranksAt k) (k .gates) i m
 
 pub live-is : (words : List ℕ) (k : Extent) (i : ℕ) → isLive words k i ≡ eqb (marks words (ranksAt k) (k .gates) i) 1
 unfolding isLive
@@ -54,28 +46,21 @@ live-below words k i t = go (ltb i (k .gates)) refl
   where
     go : (b : Bool) → ltb i (k .gates) ≡ b → i < k .gates
     go true e = ltb-true i (k .gates) e
-    go false e = absurd (zero-one (mark-past words k i (ltb-false i (k .gates) e)) (live-mark words k i t))
+    go false e = absurd (zero-one (mark-past words (ranksAt k) (k .gates) i (ltb-false i (k .gates) e)) (live-mark words k i t))
       where
         zero-one : marks words (ranksAt k) (k .gates) i ≡ 0 → marks words (ranksAt k) (k .gates) i ≡ 1 → ⊥
         zero-one a b = omega (arith, a, b)
 
--- Whether a slot is live can be read from its word.
-pub live-word : (words : List ℕ) (k : Extent) (i : ℕ) → i < k .gates → isLive words k i ≡ eqb (getD words (ranksAt k + i) 0) 1
-live-word words k i m = live-is words k i ∙ ap (λ (x : ℕ). eqb x 1) (mark-in words k i m)
-
 -- Slots are live in words that agree on the marks.
-pub live-same : (was now : List ℕ) (k : Extent) → ((x : ℕ) → ranksAt k ≤ x → x < ranksAt k + k .gates → getD now x 0 ≡ getD was x 0) →
-    (i : ℕ) → isLive now k i ≡ isLive was k i
-live-same was now k same i = go (ltb i (k .gates)) refl
-  where
-    go : (b : Bool) → ltb i (k .gates) ≡ b → isLive now k i ≡ isLive was k i
-    go true e =
-        live-word now k i (ltb-true i (k .gates) e)
-        ∙ ap (λ (x : ℕ). eqb x 1) (same (ranksAt k + i) (omega arith) (omega (arith, ltb-true i (k .gates) e)))
-        ∙ sym (live-word was k i (ltb-true i (k .gates) e))
-    go false e =
-        live-is now k i ∙ ap (λ (x : ℕ). eqb x 1) (mark-past now k i (ltb-false i (k .gates) e) ∙ sym (mark-past was k i (ltb-false i (k .gates) e)))
-        ∙ sym (live-is was k i)
+pub live-same : (was now : List ℕ) (k : Extent) →
+    ((x : ℕ) → ranksAt k ≤ x → x < ranksAt k + (k .gates / 32 + 1) → getD now x 0 ≡ getD was x 0) → (i : ℕ) →
+    isLive now k i ≡ isLive was k i
+live-same was now k same i =
+    live-is now k i
+    ∙ ap (λ (x : ℕ). eqb x 1)
+    (marks-same now was (ranksAt k) (k .gates) i
+    (λ l. ap (λ (x : ℕ). bit x (i % 32)) (same (ranksAt k + i / 32) (omega arith) (omega (arith, l)))))
+    ∙ sym (live-is was k i)
 
 -- ------------------------------------------------------------ records of live slots
 

@@ -1,39 +1,25 @@
--- `live::ask::is_live` meets its contract.
-use mathlib.Core.Path.{sym}
+-- `asking::is_live` meets its contract.
+use mathlib.Core.Path.{sym, _∙_}
 use borrow.Author.Needs.{needs}
-use Rattle.slots.proofs.StateLaws.{live-word}
+use Rattle.slots.proofs.StateLaws.{live-is}
 use Rattle.asking.proofs.is_live.Statement.{statement}
 use Rattle.asking.proofs.is_live.Tie as tie
 
-mul-result : tie.Need-mul-result
-mul-result c = search needs
+mul-is-marked : tie.Need-mul-is-marked
+mul-is-marked c = search needs
 
-add-result : tie.Need-add-result
-add-result c = search needs
+add-is-marked : tie.Need-add-is-marked
+add-is-marked c = search needs
 
-mul-result-2 : tie.Need-mul-result-2
-mul-result-2 c = search needs
+mul-is-marked-2 : tie.Need-mul-is-marked-2
+mul-is-marked-2 c = search needs
 
-add-result-2 : tie.Need-add-result-2
-add-result-2 c = search needs
-
-mul-result-3 : tie.Need-mul-result-3
-mul-result-3 c = search needs
-
-shared-slice-read-result : tie.Need-shared-slice-read-result
-shared-slice-read-result c = search needs
+is-marked-requires : tie.Need-is-marked-requires
+is-marked-requires c κs = search needs
 
 returns : tie.Need-returns
-returns c = sym (live-word _ _ _ (c .before .before .before .before .pre .1))
+returns c = c .is-marked .ensures ∙ sym (live-is _ _ _)
 
 pub is-live-spec : {M : Type 1} → statement M
 is-live-spec =
-    tie.close
-    (tie.spec
-    mul-result
-    add-result
-    mul-result-2
-    add-result-2
-    mul-result-3
-    shared-slice-read-result
-    returns)
+    tie.close (tie.spec mul-is-marked add-is-marked mul-is-marked-2 is-marked-requires returns)

@@ -1,4 +1,4 @@
--- `live::ask::partner` meets its contract.
+-- `asking::partner` meets its contract.
 use Prim.Native.Nat.{_+_, _<_}
 use native.Mathlib.Omega.{arith}
 use lib.ListN.{length}
@@ -45,6 +45,9 @@ add-pairs-7 c = search needs
 add-pairs-8 : tie.Need-add-pairs-8
 add-pairs-8 c = search needs
 
+add-pairs-9 : tie.Need-add-pairs-9
+add-pairs-9 c = search needs
+
 add-node : tie.Need-add-node
 add-node c = omega (arith, inside (c .before .before))
 
@@ -60,8 +63,8 @@ shared-slice-read-node c = omega (arith, inside (c .before .before .before))
 cast-node : tie.Need-cast-node
 cast-node c = omega (arith, c .shared-slice-known .given (pairsAt (c .before .before .before .args .k) + c .before .before .before .args .slot .0 + 1))
 
-sub-t24 : tie.Need-sub-t24
-sub-t24 c = search needs
+sub-t26 : tie.Need-sub-t26
+sub-t26 c = search needs
 
 returns : tie.Need-returns
 returns c =
@@ -87,11 +90,12 @@ partner-spec =
     add-pairs-6
     add-pairs-7
     add-pairs-8
+    add-pairs-9
     add-node
     add-node-2
     mul-node
     shared-slice-read-node
     cast-node
-    sub-t24
+    sub-t26
     returns
     returns-2)

@@ -39,6 +39,9 @@ add-base-7 c = search needs
 add-base-8 : tie.Need-add-base-8
 add-base-8 c = search needs
 
+add-base-9 : tie.Need-add-base-9
+add-base-9 c = search needs
+
 add-list-pairs : tie.Need-add-list-pairs
 add-list-pairs c = search needs
 
@@ -85,6 +88,7 @@ pair-up-spec =
     add-base-6
     add-base-7
     add-base-8
+    add-base-9
     add-list-pairs
     mul-list-pairs
     add-list-pairs-2

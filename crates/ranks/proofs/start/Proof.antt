@@ -1,6 +1,6 @@
 -- Every word of the region is 0, and so is every sum.
-use borrow.Author.Needs.{needs}
 use Rattle.ranks.proofs.MarkLaws.{blank}
+use borrow.Author.Needs.{needs}
 use Rattle.ranks.proofs.start.Statement.{statement}
 use Rattle.ranks.proofs.start.Tie as tie
 
@@ -21,6 +21,9 @@ add-size-5 c = search needs
 
 add-size-6 : tie.Need-add-size-6
 add-size-6 c = search needs
+
+add-size-7 : tie.Need-add-size-7
+add-size-7 c = search needs
 
 clear-requires : tie.Need-clear-requires
 clear-requires c κs = search needs
@@ -44,6 +47,7 @@ start-spec =
     add-size-4
     add-size-5
     add-size-6
+    add-size-7
     clear-requires
     same-length
     returns)

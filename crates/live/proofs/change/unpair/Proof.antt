@@ -35,6 +35,9 @@ add-pairs-7 c = search needs
 add-pairs-8 : tie.Need-add-pairs-8
 add-pairs-8 c = search needs
 
+add-pairs-9 : tie.Need-add-pairs-9
+add-pairs-9 c = search needs
+
 add-unlink : tie.Need-add-unlink
 add-unlink c = search needs
 
@@ -80,6 +83,7 @@ unpair-spec =
     add-pairs-6
     add-pairs-7
     add-pairs-8
+    add-pairs-9
     add-unlink
     add-unlink-2
     add-unlink-3
