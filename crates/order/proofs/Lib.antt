@@ -4,6 +4,7 @@ pub mod PassLaws
 pub mod TallyLaws
 pub mod SumLaws
 pub mod DealLaws
+pub mod CopyLaws
 pub mod ListLaws
 pub mod SortLaws
 pub mod LinkLaws
