@@ -18,7 +18,17 @@ macro_rules! change {
 }
 macro_rules! ask {
     ($of:expr, $function:ident, $what:expr) => {
-        unsafe { $function($of.records.as_ptr(), $of.records.len(), $of.work.as_ptr(), $of.work.len(), $of.gates, $of.wires, $what) }
+        unsafe {
+            $function(
+                $of.records.as_ptr(),
+                $of.records.len(),
+                $of.work.as_ptr(),
+                $of.work.len(),
+                $of.gates,
+                $of.wires,
+                $what,
+            )
+        }
     };
 }
 

@@ -8,7 +8,7 @@ use std::hint::black_box;
 use std::time::Instant;
 
 const SIZES: [usize; 3] = [10_000, 100_000, 1_000_000];
-const RUNS: usize = 7;
+const RUNS: usize = 11;
 const ASKED: usize = 100_000;
 
 fn main() {
@@ -63,55 +63,53 @@ fn pairs(gates: usize, wires: usize, kinds: &[u8]) -> Case {
     }
 }
 
-fn best(runs: usize, mut run: impl FnMut() -> f64) -> f64 {
-    (0..runs).map(|_| run()).fold(f64::MAX, f64::min)
-}
-
-fn seconds(run: impl FnOnce()) -> f64 {
+/// Runs once and keeps the time if it is the shortest so far.
+fn least(seconds: &mut f64, run: impl FnOnce()) {
     let start = Instant::now();
     run();
-    start.elapsed().as_secs_f64()
+    *seconds = seconds.min(start.elapsed().as_secs_f64());
 }
 
 fn line(name: &str, case: &Case) {
     seen_valid(case);
     let gates = case.list.len() / 16;
     let mut live = Live::room(gates, case.wires);
-    let floor = best(RUNS, || {
-        seconds(|| {
-            live.records.copy_from_slice(&case.list);
-            live.work.fill(0);
-            black_box((&live.records, &live.work));
-        })
-    });
-    let load = best(RUNS, || seconds(|| live.load(&case.list)));
-    let link = best(RUNS, || {
-        live.load(&case.list);
-        seconds(|| live.link())
-    });
     let mut slots: Vec<usize> = (0..gates).collect();
     Rng::new(3).shuffle(&mut slots);
     slots.truncate(ASKED);
-    let each = |run: f64| 1e9 * run / slots.len() as f64;
-    let position = each(best(3, || {
-        seconds(|| {
+    let [
+        mut floor,
+        mut load,
+        mut link,
+        mut position,
+        mut slot_at,
+        mut dropped,
+    ] = [f64::MAX; 6];
+    // All in turn, so that a machine that is slow for a while is slow for each of them.
+    for _ in 0..RUNS {
+        least(&mut floor, || {
+            live.records.copy_from_slice(&case.list);
+            live.work.fill(0);
+            black_box((&live.records, &live.work));
+        });
+        least(&mut load, || live.load(&case.list));
+        least(&mut link, || live.link());
+        least(&mut position, || {
             for &s in &slots {
                 black_box(live.position(s));
             }
-        })
-    }));
-    let slot_at = each(best(3, || {
-        seconds(|| {
+        });
+        least(&mut slot_at, || {
             for &s in &slots {
                 black_box(live.slot_at(s as u32));
             }
-        })
-    }));
-    let dropped = each(best(3, || {
-        live.load(&case.list);
-        live.link();
-        seconds(|| slots.iter().for_each(|&s| live.drop_slot(s)))
-    }));
+        });
+        least(&mut dropped, || {
+            slots.iter().for_each(|&s| live.drop_slot(s))
+        });
+    }
+    let each = |run: f64| 1e9 * run / slots.len() as f64;
+    let [position, slot_at, dropped] = [position, slot_at, dropped].map(each);
     println!(
         "| {name} | {gates} | {} | {:.2} | {:.2} | {:.2} | {:.1} | {position:.0} | {slot_at:.0} | {dropped:.0} |",
         case.wires,

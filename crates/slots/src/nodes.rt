@@ -3,7 +3,8 @@ ghost use mathlib.Core.Path.{_≡_};
 ghost use mathlib.Core.Bool.{cond};
 ghost use mathlib.Core.List.{[], _∷_};
 ghost use Prim.Native.Nat.{_+_, _*_, _-_, _≤_, _<_};
-ghost use lib.ListN.{length, getD, set};
+ghost use lib.Dec.{eqb};
+ghost use lib.ListN.{length, getD};
 ghost use Rattle.links.specs.Words.{word, Within};
 ghost use Rattle.slots.specs.Slots.{found};
 ghost use Rattle.slots.specs.Live.{nodesFor};
@@ -49,31 +50,30 @@ pub fn close_ends(work: &mut [u32], side: usize, k: Extent)
     }
 }
 
-// Puts a node on the stack of a wire, if it is used; its cell takes what the wire's end held in any case. No branch goes by
-// `used`: lists mix kinds freely.
-fn put_on(work: &mut [u32], end: usize, cell: usize, node: u32, used: bool)
-    requires { ⌜ (end < length (now work)) × (cell < length (now work)) ⌝ }
-    ensures { λ _. ⌜ now (work .exit) ≡ set (set (now (work .entry)) cell (getD (now (work .entry)) end 0)) end (cond used node (getD (now (work .entry)) end 0)) ⌝ }
+// The one place or the other, which comes before it. By a product, since a choice of a place is made a branch, and lists mix
+// kinds freely.
+fn one_of(first: usize, one: usize, other: usize) -> usize
+    requires { ⌜ (first ≤ 1) × (other ≤ one) ⌝ }
+    ensures { λ x. ⌜ x ≡ cond (eqb first 1) one other ⌝ }
 {
-    let last = work[end];
-    work[cell] = last;
-    work[end] = if used { node } else { last };
+    other + first * (one - other)
 }
 
-// Puts a slot's nodes on the stacks of its wires, on one side. What the cells past its operands hold does not matter.
+// Puts a slot's nodes on the stacks of its wires, on one side. A cell past its operands is put on itself: what it holds does not
+// matter.
 pub fn hang(work: &mut [u32], side: usize, k: Extent, r: Record, slot: usize)
     requires { ⌜ InRoom (now work) side k slot r ⌝ }
     ensures { λ _. ⌜ Within (side + 3 * slot + length (operandWords r)) (3 - length (operandWords r)) (hung side (3 * k .gates) (3 * slot) (operandWords r) (now (work .entry))) (now (work .exit)) ⌝ }
 {
     let ends = side + 3 * k.gates;
     let node = 3 * slot;
+    let cell = side + node;
     let count = operand_count(r);
-    let a = r.first as usize;
-    let b = if 1 < count { r.second as usize } else { a };
-    let c = if 2 < count { r.third as usize } else { a };
-    put_on(work, ends + a, side + node, node as u32, true);
-    put_on(work, ends + b, side + node + 1, node as u32 + 1, 1 < count);
-    put_on(work, ends + c, side + node + 2, node as u32 + 2, 2 < count);
+    let second = one_of(count / 2, ends + r.second as usize, cell + 1);
+    let third = one_of((count + 1) / 4, ends + r.third as usize, cell + 2);
+    links::push_on(work, ends + r.first as usize, cell, node as u32);
+    links::push_on(work, second, cell + 1, node as u32 + 1);
+    links::push_on(work, third, cell + 2, node as u32 + 2);
 }
 
 // Takes a slot's nodes off those stacks, where they are the last.

@@ -1,11 +1,11 @@
--- `live::nodes::hang` meets its contract.
-use mathlib.Core.Path.{_≡_}
-use mathlib.Core.Logic.{⊎-elim}
-use Prim.Native.Nat.{_*_}
+-- `slots::nodes::hang` meets its contract.
+use mathlib.Core.Path.{_≡_, _∙_}
+use Prim.Native.Nat.{_+_, _*_}
 use native.Mathlib.Omega.{arith}
+use lib.ListN.{length}
 use borrow.Author.Needs.{needs}
 use Rattle.slots.proofs.NodeLaws.{Counted, counted}
-use Rattle.slots.proofs.NodeHangLaws.{inPlace, in-place-used, in-place-unused, Below, in-place-below, hangs-as}
+use Rattle.slots.proofs.NodeHangLaws.{headOf, second-head, third-head, Heads, heads-in, hangs-as}
 use Rattle.slots.proofs.nodes.hang.Statement.{statement}
 use Rattle.slots.proofs.nodes.hang.Tie as tie
 
@@ -13,34 +13,33 @@ use Rattle.slots.proofs.nodes.hang.Tie as tie
 known : (c : tie.After-operand-count) → Counted (c .before .before .before .args .r) (c .operand-count .result)
 known c = counted _ _ (c .before .before .before .pre .kind) (c .operand-count .ensures .0)
 
--- What was taken for the second word, and for the third.
-second-is : (c : tie.Joined1) →
-    let r = c .before .before .before .before .before .args .r in
-    c .if1 .b ≡ inPlace 1 (c .before .before .operand-count .result) (r .first) (r .second)
+-- Where the second node is put, and the third.
+second-is : (c : tie.After-one-of) →
+    let args = c .before .before .before .before .before .args in
+    c .one-of .result
+    ≡ headOf 1 (c .before .before .operand-count .result) (args .side + 3 * args .k .gates + args .r .second) (args .side + 3 * args .slot + 1)
 second-is c =
-    ⊎-elim
-    (λ w. in-place-used _ _ _ _ _ (w .0 .taken) (w .2))
-    (λ w. in-place-unused _ _ _ _ _ (w .0 .left) (w .1))
-    (c .if1 .came)
+    let count = known (c .before .before) in
+    c .one-of .ensures ∙ second-head _ _ _ (count .some) (count .few)
 
-third-is : (c : tie.Joined2) →
-    let r = c .before .before .before .before .before .before .args .r in
-    c .if2 .c ≡ inPlace 2 (c .before .before .before .operand-count .result) (r .first) (r .third)
+third-is : (c : tie.After-one-of2) →
+    let args = c .before .before .before .before .before .before .before .args in
+    c .one-of2 .result
+    ≡ headOf 2 (c .before .before .before .before .operand-count .result) (args .side + 3 * args .k .gates + args .r .third) (args .side + 3 * args .slot + 2)
 third-is c =
-    ⊎-elim
-    (λ w. in-place-used _ _ _ _ _ (w .0 .taken) (w .2))
-    (λ w. in-place-unused _ _ _ _ _ (w .0 .left) (w .1))
-    (c .if2 .came)
+    let count = known (c .before .before .before .before) in
+    c .one-of2 .ensures ∙ third-head _ _ _ (count .some) (count .few)
 
--- Each of them is a wire, so its end is in the slice.
-wires : (c : tie.Joined2) →
-    let start = c .before .before .before .before .before .before in
-    Below (start .args .k .wires) (start .args .r .first) (c .before .if1 .b) (c .if2 .c)
-wires c =
-    let count = known (c .before .before .before) in
-    let below = c .before .before .before .before .before .before .pre .wires in
-    rw (second-is (c .before), third-is c)
-    (in-place-below _ _ _ _ _ (count .some) (count .few) (rw (count .are) at below))
+-- Each place is in the slice.
+heads : (c : tie.After-one-of2) →
+    let args = c .before .before .before .before .before .before .before .args in
+    Heads (length (args .work .now)) (args .side + 3 * args .k .gates + args .r .first) (c .before .before .one-of .result) (c .one-of2 .result)
+heads c =
+    let start = c .before .before .before .before .before .before .before in
+    let count = known (c .before .before .before .before) in
+    rw (second-is (c .before .before), third-is c)
+    (heads-in _ (start .args .k .wires) _ _ _ _ _ _ (omega (arith, start .pre .within)) (omega (arith, start .pre .inside)) (count .some) (count .few)
+    (rw (count .are) at (start .pre .wires)))
 
 mul-ends : tie.Need-mul-ends
 mul-ends c = search needs
@@ -51,72 +50,84 @@ add-ends c = search needs
 mul-node : tie.Need-mul-node
 mul-node c = search needs
 
+add-cell : tie.Need-add-cell
+add-cell c = search needs
+
 operand-count-requires : tie.Need-operand-count-requires
 operand-count-requires c κs = search needs
 
-cast-a : tie.Need-cast-a
-cast-a c = search needs
+cast-one-of : tie.Need-cast-one-of
+cast-one-of c = search needs
 
-cast-b : tie.Need-cast-b
-cast-b c = search needs
+add-one-of : tie.Need-add-one-of
+add-one-of c = search needs
 
-cast-c : tie.Need-cast-c
-cast-c c = search needs
+add-one-of-2 : tie.Need-add-one-of-2
+add-one-of-2 c = search needs
 
-add-put-on : tie.Need-add-put-on
-add-put-on c = search needs
+one-of-requires : tie.Need-one-of-requires
+one-of-requires c κs = search needs
 
-add-put-on-2 : tie.Need-add-put-on-2
-add-put-on-2 c = search needs
+add-one-of-3 : tie.Need-add-one-of-3
+add-one-of-3 c = search needs
 
-cast-put-on : tie.Need-cast-put-on
-cast-put-on c = search needs
+cast-one-of-2 : tie.Need-cast-one-of-2
+cast-one-of-2 c = search needs
 
-put-on-requires : tie.Need-put-on-requires
-put-on-requires c κs = omega (arith, wires (c .before) .first)
+add-one-of-4 : tie.Need-add-one-of-4
+add-one-of-4 c = search needs
 
-add-put-on-3 : tie.Need-add-put-on-3
-add-put-on-3 c = omega (arith, wires (c .before .before .before .before .before .before) .second)
+add-one-of-5 : tie.Need-add-one-of-5
+add-one-of-5 c = search needs
 
-add-put-on-4 : tie.Need-add-put-on-4
-add-put-on-4 c = search needs
+one-of-requires-2 : tie.Need-one-of-requires-2
+one-of-requires-2 c κs = search needs
 
-add-put-on-5 : tie.Need-add-put-on-5
-add-put-on-5 c = search needs
+cast-push-on : tie.Need-cast-push-on
+cast-push-on c = search needs
 
-cast-put-on-2 : tie.Need-cast-put-on-2
-cast-put-on-2 c = search needs
+add-push-on : tie.Need-add-push-on
+add-push-on c = search needs
 
-add-put-on-6 : tie.Need-add-put-on-6
-add-put-on-6 c = search needs
+cast-push-on-2 : tie.Need-cast-push-on-2
+cast-push-on-2 c = search needs
 
-put-on-requires-2 : tie.Need-put-on-requires-2
-put-on-requires-2 c κs =
-    let first = c .before .before .before .before in
-    omega (arith, wires (first .before .before) .second, first .put-on .kept .0)
+push-on-requires : tie.Need-push-on-requires
+push-on-requires c κs =
+    omega (arith, heads (c .before .before) .first)
 
-add-put-on-7 : tie.Need-add-put-on-7
-add-put-on-7 c =
-    let first = c .before .before .before .before .before .before .before .before .before in
-    omega (arith, wires (first .before .before) .third)
+add-push-on-2 : tie.Need-add-push-on-2
+add-push-on-2 c = search needs
 
-add-put-on-8 : tie.Need-add-put-on-8
-add-put-on-8 c = search needs
+cast-push-on-3 : tie.Need-cast-push-on-3
+cast-push-on-3 c = search needs
 
-add-put-on-9 : tie.Need-add-put-on-9
-add-put-on-9 c = search needs
+add-push-on-3 : tie.Need-add-push-on-3
+add-push-on-3 c = search needs
 
-cast-put-on-3 : tie.Need-cast-put-on-3
-cast-put-on-3 c = search needs
+push-on-requires-2 : tie.Need-push-on-requires-2
+push-on-requires-2 c κs =
+    let first = c .before .before .before in
+    omega (arith, heads (first .before .before .before) .second, first .push-on .kept .0)
 
-add-put-on-10 : tie.Need-add-put-on-10
-add-put-on-10 c = search needs
+add-push-on-4 : tie.Need-add-push-on-4
+add-push-on-4 c = search needs
 
-put-on-requires-3 : tie.Need-put-on-requires-3
-put-on-requires-3 c κs =
-    let second = c .before .before .before .before in
-    let first = second .before .before .before .before .before in
-    omega (arith, wires (first .before .before) .third, second .put-on2 .kept .0, first .put-on .kept .0)
+cast-push-on-4 : tie.Need-cast-push-on-4
+cast-push-on-4 c = search needs
+
+add-push-on-5 : tie.Need-add-push-on-5
+add-push-on-5 c = search needs
+
+push-on-requires-3 : tie.Need-push-on-requires-3
+push-on-requires-3 c κs =
+    let second = c .before .before .before in
+    let first = second .before .before .before .before in
+    let placed = first .before .before .before in
+    let start = placed .before .before .before .before .before .before .before in (
+      omega (arith, heads placed .third, second .push-on2 .kept .0, first .push-on .kept .0),
+      omega (arith, start .pre .within, start .pre .inside, second .push-on2 .kept .0, first .push-on .kept .0),
+    )
 
 same-length : tie.Need-same-length
 same-length c = search needs
@@ -124,13 +135,13 @@ same-length c = search needs
 returns : tie.Need-returns
 returns c =
     let third = c .before .before in
-    let second = third .before .before .before .before .before in
-    let first = second .before .before .before .before .before in
-    let join = first .before .before in
-    let start = join .before .before .before .before .before .before in
+    let second = third .before .before .before .before in
+    let first = second .before .before .before .before in
+    let placed = first .before .before .before in
+    let start = placed .before .before .before .before .before .before .before in
     hangs-as (start .args .side) (3 * start .args .k .gates) (3 * start .args .slot) (start .args .r) _ _ _ _ _ _ _
-    (omega (arith, start .pre .inside)) (known (join .before .before .before)) (second-is (join .before)) (third-is join)
-    (first .put-on .ensures) (second .put-on2 .ensures) (third .put-on3 .ensures)
+    (known (placed .before .before .before .before)) (second-is (placed .before .before)) (third-is placed) (first .push-on .ensures) (second .push-on2 .ensures)
+    (third .push-on3 .ensures)
 
 pub hang-spec : {M : Type 1} → statement M
 hang-spec =
@@ -139,25 +150,28 @@ hang-spec =
     mul-ends
     add-ends
     mul-node
+    add-cell
     operand-count-requires
-    cast-a
-    cast-b
-    cast-c
-    add-put-on
-    add-put-on-2
-    cast-put-on
-    put-on-requires
-    add-put-on-3
-    add-put-on-4
-    add-put-on-5
-    cast-put-on-2
-    add-put-on-6
-    put-on-requires-2
-    add-put-on-7
-    add-put-on-8
-    add-put-on-9
-    cast-put-on-3
-    add-put-on-10
-    put-on-requires-3
+    cast-one-of
+    add-one-of
+    add-one-of-2
+    one-of-requires
+    add-one-of-3
+    cast-one-of-2
+    add-one-of-4
+    add-one-of-5
+    one-of-requires-2
+    cast-push-on
+    add-push-on
+    cast-push-on-2
+    push-on-requires
+    add-push-on-2
+    cast-push-on-3
+    add-push-on-3
+    push-on-requires-2
+    add-push-on-4
+    cast-push-on-4
+    add-push-on-5
+    push-on-requires-3
     same-length
     returns)
