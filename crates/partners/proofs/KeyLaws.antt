@@ -123,16 +123,6 @@ two-wires kind least most = go (eqb kind 8) refl
         let cz : kind ≡ 9 = omega (arith, least, most, eqb-false kind 8 e) in
         rw cz
 
-three-wires : (kind : ℕ) → 10 ≤ kind → kind ≤ 11 → wiresIn (shapeOf kind) ≡ 3
-unfolding shapeOf shapes
-three-wires kind least most = go (eqb kind 10) refl
-  where
-    go : (t : Bool) → eqb kind 10 ≡ t → wiresIn (shapeOf kind) ≡ 3
-    go true e = rw (eqb-true kind 10 e)
-    go false e =
-        let ccz : kind ≡ 11 = omega (arith, least, most, eqb-false kind 10 e) in
-        rw ccz
-
 module _ (r : Record) (n : ℕ) where
   -- The keys of each kind; two or three of the words come sorted.
   keys-cnot : r .kind ≡ 8 → keys (r .first) 0 (r .second + r .kind % 2 * n) ≡ keysFrom (raised n (r .kind)) (ordered (r .kind) (operandWords r))
@@ -144,15 +134,15 @@ module _ (r : Record) (n : ℕ) where
   unfolding shapeOf shapes ordered has
   keys-cz a b e s = rw (e, ← s, one-mul n)
 
-  keys-ccx : (a b : ℕ) → r .kind ≡ 10 → a ∷ b ∷ [] ≡ sorted (r .first ∷ r .second ∷ []) →
-      keys a b (r .third + r .kind % 2 * n) ≡ keysFrom (raised n (r .kind)) (ordered (r .kind) (operandWords r))
+  pub keys-ccx : (a b : ℕ) → r .kind ≡ 10 → a ∷ b ∷ [] ≡ sorted (r .first ∷ r .second ∷ []) →
+      keys a b (r .third) ≡ keysFrom (raised n (r .kind)) (ordered (r .kind) (operandWords r))
   unfolding shapeOf shapes ordered has
-  keys-ccx a b e s = rw (e, ← s, zero-mul n)
+  keys-ccx a b e s = rw (e, ← s, add-zero (r .third))
 
-  keys-ccz : (a b c : ℕ) → r .kind ≡ 11 → a ∷ b ∷ c ∷ [] ≡ sorted (r .first ∷ r .second ∷ r .third ∷ []) →
-      keys a b (c + r .kind % 2 * n) ≡ keysFrom (raised n (r .kind)) (ordered (r .kind) (operandWords r))
+  pub keys-ccz : (a b c : ℕ) → r .kind ≡ 11 → a ∷ b ∷ c ∷ [] ≡ sorted (r .first ∷ r .second ∷ r .third ∷ []) →
+      keys a b (c + n) ≡ keysFrom (raised n (r .kind)) (ordered (r .kind) (operandWords r))
   unfolding shapeOf shapes ordered has
-  keys-ccz a b c e s = rw (e, ← s, one-mul n)
+  keys-ccz a b c e s = rw (e, ← s)
 
   -- Two wires as the code chooses them: a cnot's as they stand, a cz's sorted.
   pub keys-two : (a b x y : ℕ) → 8 ≤ r .kind → r .kind < 10 → a ∷ b ∷ [] ≡ sorted (r .first ∷ r .second ∷ []) →
@@ -165,18 +155,6 @@ module _ (r : Record) (n : ℕ) where
       go true e = keys-cnot (eqb-true (r .kind) 8 e)
       go false e = keys-cz a b (omega (arith, least, most, eqb-false (r .kind) 8 e)) s
 
-  -- Three wires: a ccx's controls sorted and then its target, a ccz's all sorted.
-  pub keys-three : (a b l m h x y z : ℕ) → 10 ≤ r .kind → r .kind ≤ 11 → a ∷ b ∷ [] ≡ sorted (r .first ∷ r .second ∷ []) →
-      l ∷ m ∷ h ∷ [] ≡ sorted (r .first ∷ r .second ∷ r .third ∷ []) → x ≡ cond (eqb (r .kind) 10) a l → y ≡ cond (eqb (r .kind) 10) b m →
-      z ≡ cond (eqb (r .kind) 10) (r .third) h → keys x y (z + r .kind % 2 * n) ≡ keysFrom (raised n (r .kind)) (ordered (r .kind) (operandWords r))
-  keys-three a b l m h x y z least most s u ex ey ez = rw (ex, ey, ez) (go (eqb (r .kind) 10) refl)
-    where
-      go : (t : Bool) → eqb (r .kind) 10 ≡ t →
-          keys (cond t a l) (cond t b m) (cond t (r .third) h + r .kind % 2 * n) ≡
-          keysFrom (raised n (r .kind)) (ordered (r .kind) (operandWords r))
-      go true e = keys-ccx a b (eqb-true (r .kind) 10 e) s
-      go false e = keys-ccz l m h (omega (arith, least, most, eqb-false (r .kind) 10 e)) u
-
   -- The words are below n, and so are they in order.
   pub two-small : (a b : ℕ) → 8 ≤ r .kind → r .kind < 10 → All (λ w. w < n) (operandWords r) → a ∷ b ∷ [] ≡ sorted (r .first ∷ r .second ∷ []) →
       All (λ w. w < n) (r .first ∷ r .second ∷ []) × All (λ w. w < n) (a ∷ b ∷ [])
@@ -184,12 +162,11 @@ module _ (r : Record) (n : ℕ) where
       let words : All (λ (w : ℕ). w < n) (r .first ∷ r .second ∷ []) = rw (two-wires (r .kind) least most) at all in
       (words, subst (All (λ (w : ℕ). w < n)) (sym s) (all-sorted (λ w. w < n) _ words))
 
-  pub three-small : (a b c : ℕ) → 10 ≤ r .kind → r .kind ≤ 11 → All (λ w. w < n) (operandWords r) →
-      a ∷ b ∷ c ∷ [] ≡ sorted (r .first ∷ r .second ∷ r .third ∷ []) →
-      All (λ w. w < n) (r .first ∷ r .second ∷ r .third ∷ []) × All (λ w. w < n) (a ∷ b ∷ c ∷ [])
-  three-small a b c least most all s =
-      let words : All (λ (w : ℕ). w < n) (r .first ∷ r .second ∷ r .third ∷ []) = rw (three-wires (r .kind) least most) at all in
-      (words, subst (All (λ (w : ℕ). w < n)) (sym s) (all-sorted (λ w. w < n) _ words))
+  pub ccz-small : (a b c : ℕ) → r .kind ≡ 11 → All (λ w. w < n) (operandWords r) →
+      a ∷ b ∷ c ∷ [] ≡ sorted (r .first ∷ r .second ∷ r .third ∷ []) → c < n
+  unfolding shapeOf shapes
+  ccz-small a b c e all s =
+      subst (All (λ (w : ℕ). w < n)) (sym s) (all-sorted (λ w. w < n) (r .first ∷ r .second ∷ r .third ∷ []) (rw e at all)) .1 .1 .0
 
 -- ------------------------------------------------------------ what the wires of a pair are
 

@@ -32,7 +32,7 @@ fn either(one: bool, a: u32, b: u32) -> u32
     if one { a } else { b }
 }
 
-// The keys of a cnot, cz, ccx or ccz.
+// The keys of a cnot, cz, ccx or ccz. A ccx branches: a ccz's three wires in order cost more than the branch.
 fn keys_of(r: Record, wires: u32) -> Keys
     requires { ⌜ (8 ≤ r .kind) × (r .kind ≤ 11) × (wires ≤ 65536) ⌝ }
     requires { ⌜ All (λ w. w < wires) (operandWords r) ⌝ }
@@ -44,24 +44,30 @@ fn keys_of(r: Record, wires: u32) -> Keys
     let two = equal::canonical_pair(a, b);
     let low = two.first;
     let high = two.second;
-    let raise = (kind % 2) as u32 * wires;
     if kind < 10 {
         let plain = kind == 8;
+        let raise = (kind % 2) as u32 * wires;
         return Keys {
             first: either(plain, r.first, low.0),
             middle: 0,
             last: either(plain, r.second, high.0) + raise,
         };
     }
+    if kind == 10 {
+        return Keys {
+            first: low.0,
+            middle: high.0,
+            last: r.third,
+        };
+    }
     let three = equal::canonical_triple(a, b, Wire(r.third));
     let least = three.first;
     let middle = three.second;
     let most = three.third;
-    let plain = kind == 10;
     Keys {
-        first: either(plain, low.0, least.0),
-        middle: either(plain, high.0, middle.0),
-        last: either(plain, r.third, most.0) + raise,
+        first: least.0,
+        middle: middle.0,
+        last: most.0 + wires,
     }
 }
 
