@@ -13,7 +13,7 @@ use Rattle.gates.specs.Records.{recordAt, operandWords}
 use Rattle.rules.specs.Equal.{equal, isPair}
 use Rattle.links.specs.Words.{word, Within}
 use Rattle.links.specs.Seek.{nodeAt}
-use Rattle.links.proofs.WordLaws.{within-none, within-then, within-set, past-first}
+use Rattle.links.proofs.WordLaws.{within-none, within-then, within-set}
 use Rattle.links.proofs.SeekLaws.{without, latest-same, earliest-same}
 use Rattle.ranks.specs.Ranks.{Ranks, marks, Marked}
 use Rattle.ranks.proofs.KeepLaws.{ranks-same}
@@ -25,7 +25,7 @@ use Rattle.slots.proofs.WireLaws.{node, end, Touching, apart}
 use Rattle.slots.proofs.RingsLaws.{Back, Ahead, back-same, ahead-same, kept-on, kept-first}
 use Rattle.slots.proofs.RunLaws.{just, at-slot, has-none}
 use Rattle.slots.proofs.DropLaws.{just-touching, PassedAll, pass-all}
-use Rattle.slots.proofs.StateLaws.{live-same, live-mark, live-below, touching, loaded-back, forward-ahead, run-of, wires-are, record-is}
+use Rattle.slots.proofs.StateLaws.{within-room, live-same, live-mark, live-below, touching, loaded-back, forward-ahead, run-of, wires-are, record-is}
 use Rattle.live.proofs.GoneLaws.{before-small, after-small, can-unpair, gone-partners}
 use Rattle.live.proofs.LoadLaws.{back-stays}
 use Rattle.live.proofs.PopLaws.{live-then, live-gone, live-without, held-without, just-none}
@@ -253,14 +253,10 @@ module _ (k : Extent) (bytes was : List ℕ) (slot : ℕ) (live : isLive was k s
         drop-held = held-without k bytes was unpaired now slot live marks-kept marked
 
         pub drop-within : Within 0 (wordsFor k) was now
-        drop-within = record { long = now-long; same = λ x o. past-all x (beyond x (past-first (wordsFor k) x o) slot<) }
-          where
-            beyond : (x : ℕ) → wordsFor k ≤ x → slot < k .gates → pairsAt k + 2 * (k .gates + 1) ≤ x
-            beyond x a l = omega (arith, a, l)
-
-            past-all : (x : ℕ) → pairsAt k + 2 * (k .gates + 1) ≤ x → getD now x 0 ≡ getD was x 0
-            past-all x b =
-                now-past x (omega (arith, b)) ∙ unpaired-kept .same x (λ l. absurd (omega (arith, b, l))) ∙ passed-kept .same x (λ l. absurd (omega (arith, b, l)))
+        drop-within =
+            within-room k was now (omega (arith, slot<)) now-long
+            (λ x b.
+            now-past x (omega (arith, b)) ∙ unpaired-kept .same x (λ l. absurd (omega (arith, b, l))) ∙ passed-kept .same x (λ l. absurd (omega (arith, b, l))))
 
         -- All that the code promises of a gate that it drops.
         pub dropped : Live bytes now k × ((held bytes now k ≡ leftOut slot (held bytes was k)) × Within 0 (wordsFor k) was now)

@@ -15,10 +15,9 @@ use Rattle.gates.proofs.Joined.{and-left, and-right}
 use Rattle.rules.specs.Steps.{Cell}
 use Rattle.links.specs.Words.{word, Outside, Within}
 use Rattle.links.specs.Seek.{nodeAt}
-use Rattle.links.proofs.WordLaws.{past-first}
 use Rattle.links.proofs.SeekLaws.{latest-one}
 use Rattle.links.proofs.StackLaws.{latest-named, back-carried}
-use Rattle.ranks.specs.Ranks.{Ranks, marks, sizeFor, Marked}
+use Rattle.ranks.specs.Ranks.{Ranks, marks, Marked}
 use Rattle.slots.specs.declared.Extent.{Extent}
 use Rattle.slots.specs.Slots.{gateIn, gateAt, Sound, cellOf}
 use Rattle.slots.specs.Live.{wordsFor, nodesFor, prevAt, ranksAt, isLive, operandOf, nodeOn, endOf, onWire, held, Loaded}
@@ -27,7 +26,7 @@ use Rattle.slots.proofs.HeldLaws.{cells-none, cells-pushed, slots-below}
 use Rattle.slots.proofs.WireLaws.{node, end, Touching, at-most-three, operand-is, apart}
 use Rattle.slots.proofs.RingsLaws.{Back, back-same, kept-back, kept-last}
 use Rattle.slots.proofs.RunLaws.{plus, at-slot, plus-touching, hung-back}
-use Rattle.slots.proofs.StateLaws.{live-same, live-is, mark-live, live-below, loaded-back, run-of, hang-within, wires-are}
+use Rattle.slots.proofs.StateLaws.{within-room, live-same, live-is, mark-live, live-below, loaded-back, run-of, hang-within, wires-are}
 
 -- ------------------------------------------------------------ links that stay
 
@@ -279,10 +278,6 @@ module _ (k : Extent) (bytes bytes′ was hanging now : List ℕ) (slot : ℕ) (
           go false e = refl
 
   pub push-within : Within 0 (wordsFor k) was now
-  push-within = record { long = now-long; same = λ x o. past-all x (beyond x (past-first (wordsFor k) x o) slot<) }
-    where
-      beyond : (x : ℕ) → wordsFor k ≤ x → slot < k .gates → ranksAt k + sizeFor (k .gates) ≤ x
-      beyond x a l = omega (arith, a, l)
-
-      past-all : (x : ℕ) → ranksAt k + sizeFor (k .gates) ≤ x → getD now x 0 ≡ getD was x 0
-      past-all x b = marked .within .same x (λ l. absurd (omega (arith, b, l))) ∙ hanging-past x (omega (arith, b))
+  push-within =
+      within-room k was now (omega (arith, slot<)) now-long
+      (λ x b. marked .within .same x (λ l. absurd (omega (arith, b, l))) ∙ hanging-past x (omega (arith, b)))

@@ -13,9 +13,9 @@ use Rattle.gates.specs.Records.{recordAt, operandWords}
 use Rattle.gates.proofs.Joined.{and-left, and-right}
 use Rattle.rules.specs.Steps.{all}
 use Rattle.links.specs.Words.{word, Within}
-use Rattle.links.proofs.WordLaws.{within-none, within-then, within-set, past-first}
+use Rattle.links.proofs.WordLaws.{within-none, within-then, within-set}
 use Rattle.links.proofs.SeekLaws.{without, without-other, without-itself}
-use Rattle.ranks.specs.Ranks.{marks, sizeFor, Marked}
+use Rattle.ranks.specs.Ranks.{marks, Marked}
 use Rattle.slots.specs.declared.Extent.{Extent}
 use Rattle.slots.specs.Slots.{gateAt, Sound, leftOut}
 use Rattle.slots.specs.Live.{wordsFor, nodesFor, prevAt, ranksAt, isLive, endOf, onWire, held, later, Loaded}
@@ -25,7 +25,7 @@ use Rattle.slots.proofs.WireLaws.{node, Touching, apart}
 use Rattle.slots.proofs.RingsLaws.{Back, back-same}
 use Rattle.slots.proofs.RunLaws.{just, at-slot, has-none, has-first, has-rest}
 use Rattle.slots.proofs.DropLaws.{just-touching, off-all}
-use Rattle.slots.proofs.StateLaws.{live-same, live-is, live-below, touching, loaded-back, run-of, wires-are, wires-small}
+use Rattle.slots.proofs.StateLaws.{within-room, live-same, live-is, live-below, touching, loaded-back, run-of, wires-are, wires-small}
 use Rattle.live.proofs.LoadLaws.{back-stays}
 
 -- Two gates on one wire share it.
@@ -182,10 +182,6 @@ module _ (k : Extent) (bytes was off now : List ℕ) (slot : ℕ) (live : isLive
   pop-held = held-without k bytes was off now slot live marks-kept marked
 
   pub pop-within : Within 0 (wordsFor k) was now
-  pop-within = record { long = now-long; same = λ x o. past-all x (beyond x (past-first (wordsFor k) x o) slot<) }
-    where
-      beyond : (x : ℕ) → wordsFor k ≤ x → slot < k .gates → ranksAt k + sizeFor (k .gates) ≤ x
-      beyond x a l = omega (arith, a, l)
-
-      past-all : (x : ℕ) → ranksAt k + sizeFor (k .gates) ≤ x → getD now x 0 ≡ getD was x 0
-      past-all x b = marked .within .same x (λ l. absurd (omega (arith, b, l))) ∙ off-kept .same x (λ l. absurd (omega (arith, b, l)))
+  pop-within =
+      within-room k was now (omega (arith, slot<)) now-long
+      (λ x b. marked .within .same x (λ l. absurd (omega (arith, b, l))) ∙ off-kept .same x (λ l. absurd (omega (arith, b, l))))

@@ -15,7 +15,7 @@ use Rattle.gates.proofs.Joined.{and-right}
 use Rattle.gates.proofs.RecordLaws.{known-kind}
 use Rattle.gates.proofs.RoundTrip.{wires-words, encode-decode}
 use Rattle.links.specs.Words.{word, Within}
-use Rattle.links.proofs.WordLaws.{within-then, within-wider}
+use Rattle.links.proofs.WordLaws.{within-then, within-wider, past-first}
 use Rattle.ranks.specs.Ranks.{bit, marks}
 use Rattle.ranks.proofs.KeepLaws.{ranks-same}
 use Rattle.ranks.proofs.RegionLaws.{mark-past, marks-same}
@@ -150,6 +150,15 @@ run-of bytes k s sound =
 -- The room that a list of one gate or more has: links, ranks, pairs, lists and a table fit into 16g + 4n words.
 pub room-enough : (k : Extent) → 0 < k .gates → pairsAt k + (2 * (k .gates + 1) + 2 * k .gates + 2 * k .wires) ≤ wordsFor k
 room-enough k some = omega (arith, some)
+
+-- A change that leaves all words past the links between equals leaves all past the room.
+pub within-room : (k : Extent) (was now : List ℕ) → 0 < k .gates → length now ≡ length was →
+    ((x : ℕ) → pairsAt k + 2 * (k .gates + 1) ≤ x → getD now x 0 ≡ getD was x 0) → Within 0 (wordsFor k) was now
+within-room k was now some long past =
+    record { long = long; same = λ x o. past x (beyond x (past-first (wordsFor k) x o)) }
+  where
+    beyond : (x : ℕ) → wordsFor k ≤ x → pairsAt k + 2 * (k .gates + 1) ≤ x
+    beyond x l = omega (arith, l, room-enough k some)
 
 pub keeps-marks : (k : Extent) (was now : List ℕ) → KeepsLoaded k was now → (i : ℕ) → isLive now k i ≡ isLive was k i
 keeps-marks k was now keeps = live-same was now k (λ x a b. keeps .inside x (omega arith) (omega arith))
