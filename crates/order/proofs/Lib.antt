@@ -4,7 +4,7 @@ pub mod PassLaws
 pub mod TallyLaws
 pub mod SumLaws
 pub mod DealLaws
-pub mod CopyLaws
+pub mod PartLaws
 pub mod ListLaws
 pub mod SortLaws
 pub mod LinkLaws
