@@ -11,4 +11,5 @@ pub mod LinkLaws
 pub mod PrecedeLaws
 pub mod MeetLaws
 pub mod PeerLaws
+pub mod BackLaws
 pub mod PairLaws
