@@ -38,7 +38,8 @@ pub struct Live {
     pub work: Vec<u32>,
     gates: usize,
     wires: usize,
-    gone: Vec<bool>,
+    /// A bit for each slot: what the caller keeps for its own tests should cost little of what is timed.
+    gone: Vec<u64>,
     left: usize,
     linked: bool,
 }
@@ -52,7 +53,7 @@ impl Live {
             work: vec![0xDEAD_BEEF; 16 * gates + 4 * wires],
             gates,
             wires,
-            gone: vec![false; gates],
+            gone: vec![0; gates / 64 + 1],
             left: 0,
             linked: false,
         }
@@ -62,7 +63,7 @@ impl Live {
     pub fn load(&mut self, list: &[u8]) {
         assert_eq!(list.len(), 16 * self.gates);
         change!(self, live_load, list.as_ptr(), list.len());
-        self.gone.fill(false);
+        self.gone.fill(0);
         self.left = self.gates;
         self.linked = false;
     }
@@ -83,8 +84,9 @@ impl Live {
     }
 
     pub fn drop_slot(&mut self, slot: usize) {
-        assert!(self.linked && !self.gone[slot]);
-        self.gone[slot] = true;
+        let bit = 1 << (slot % 64);
+        assert!(self.linked && slot < self.gates && self.gone[slot / 64] & bit == 0);
+        self.gone[slot / 64] |= bit;
         self.left -= 1;
         change!(self, live_drop, slot);
     }

@@ -1,4 +1,4 @@
-//! Times the live list. One line for each list and size; times are the best of several runs.
+//! Times the live list. One line for each list and size; times are the least of several runs, spread over a minute or two.
 mod live;
 
 use live::Live;
@@ -8,7 +8,8 @@ use std::hint::black_box;
 use std::time::Instant;
 
 const SIZES: [usize; 3] = [10_000, 100_000, 1_000_000];
-const RUNS: usize = 11;
+const SWEEPS: usize = 4;
+const RUNS: usize = 4;
 const ASKED: usize = 100_000;
 
 fn main() {
@@ -26,15 +27,35 @@ fn main() {
     if only_compare {
         return;
     }
+    let mut rows = Vec::new();
+    for sweep in 0..SWEEPS {
+        eprintln!("timing, {} of {SWEEPS}", sweep + 1);
+        for (at, (name, make)) in lists().into_iter().enumerate() {
+            let case = make();
+            if sweep == 0 {
+                seen_valid(&case);
+                rows.push(Row::new(name, &case));
+            }
+            rows[at].time(&case);
+        }
+    }
     println!(
         "| list | gates | wires | copy and zero, ms | load, ms | link, ms | times copy and zero | position, ns | slot at, ns | drop, ns |"
     );
     println!("|---|---|---|---|---|---|---|---|---|---|");
+    for row in rows {
+        println!("{row}");
+    }
+}
+
+type Make = Box<dyn Fn() -> Case>;
+
+/// All lists in all sizes, each made when it is asked for.
+fn lists() -> Vec<(&'static str, Make)> {
+    let mut all: Vec<(&str, Make)> = Vec::new();
     for family in Family::ALL {
-        for gates in SIZES {
-            if gates <= family.largest() {
-                line(family.name(), &family.make(gates, 1));
-            }
+        for gates in SIZES.into_iter().filter(|&g| g <= family.largest()) {
+            all.push((family.name(), Box::new(move || family.make(gates, 1))));
         }
     }
     for (name, kinds) in [
@@ -42,9 +63,10 @@ fn main() {
         ("cnot, cz, ccx, ccz at random", &[8, 9, 10, 11]),
     ] {
         for gates in SIZES {
-            line(name, &pairs(gates, 4_096, kinds));
+            all.push((name, Box::new(move || pairs(gates, 4_096, kinds))));
         }
     }
+    all
 }
 
 /// A list of pair gates only, on random wires: the most work for the links between equals.
@@ -70,54 +92,89 @@ fn least(seconds: &mut f64, run: impl FnOnce()) {
     *seconds = seconds.min(start.elapsed().as_secs_f64());
 }
 
-fn line(name: &str, case: &Case) {
-    seen_valid(case);
-    let gates = case.list.len() / 16;
-    let mut live = Live::room(gates, case.wires);
-    let mut slots: Vec<usize> = (0..gates).collect();
-    Rng::new(3).shuffle(&mut slots);
-    slots.truncate(ASKED);
-    let [
-        mut floor,
-        mut load,
-        mut link,
-        mut position,
-        mut slot_at,
-        mut dropped,
-    ] = [f64::MAX; 6];
-    // All in turn, so that a machine that is slow for a while is slow for each of them.
-    for _ in 0..RUNS {
-        least(&mut floor, || {
-            live.records.copy_from_slice(&case.list);
-            live.work.fill(0);
-            black_box((&live.records, &live.work));
-        });
-        least(&mut load, || live.load(&case.list));
-        least(&mut link, || live.link());
-        least(&mut position, || {
-            for &s in &slots {
-                black_box(live.position(s));
-            }
-        });
-        least(&mut slot_at, || {
-            for &s in &slots {
-                black_box(live.slot_at(s as u32));
-            }
-        });
-        least(&mut dropped, || {
-            slots.iter().for_each(|&s| live.drop_slot(s))
-        });
+/// The least time seen of each part, in seconds; of the last three for all slots that are asked.
+struct Row {
+    name: &'static str,
+    gates: usize,
+    wires: usize,
+    floor: f64,
+    load: f64,
+    link: f64,
+    position: f64,
+    slot_at: f64,
+    dropped: f64,
+}
+
+impl Row {
+    fn new(name: &'static str, case: &Case) -> Self {
+        let [floor, load, link, position, slot_at, dropped] = [f64::MAX; 6];
+        Row {
+            name,
+            gates: case.list.len() / 16,
+            wires: case.wires,
+            floor,
+            load,
+            link,
+            position,
+            slot_at,
+            dropped,
+        }
     }
-    let each = |run: f64| 1e9 * run / slots.len() as f64;
-    let [position, slot_at, dropped] = [position, slot_at, dropped].map(each);
-    println!(
-        "| {name} | {gates} | {} | {:.2} | {:.2} | {:.2} | {:.1} | {position:.0} | {slot_at:.0} | {dropped:.0} |",
-        case.wires,
-        1e3 * floor,
-        1e3 * load,
-        1e3 * link,
-        (load + link) / floor
-    );
+
+    fn asked(&self) -> Vec<usize> {
+        let mut slots: Vec<usize> = (0..self.gates).collect();
+        Rng::new(3).shuffle(&mut slots);
+        slots.truncate(ASKED);
+        slots
+    }
+
+    /// All in turn, so that a machine that is slow for a while is slow for each of them.
+    fn time(&mut self, case: &Case) {
+        let mut live = Live::room(self.gates, self.wires);
+        let slots = self.asked();
+        for _ in 0..RUNS {
+            least(&mut self.floor, || {
+                live.records.copy_from_slice(&case.list);
+                live.work.fill(0);
+                black_box((&live.records, &live.work));
+            });
+            least(&mut self.load, || live.load(&case.list));
+            least(&mut self.link, || live.link());
+            least(&mut self.position, || {
+                for &s in &slots {
+                    black_box(live.position(s));
+                }
+            });
+            least(&mut self.slot_at, || {
+                for &s in &slots {
+                    black_box(live.slot_at(s as u32));
+                }
+            });
+            least(&mut self.dropped, || {
+                slots.iter().for_each(|&s| live.drop_slot(s))
+            });
+        }
+    }
+}
+
+impl std::fmt::Display for Row {
+    fn fmt(&self, f: &mut std::fmt::Formatter) -> std::fmt::Result {
+        let each = |run: f64| 1e9 * run / self.gates.min(ASKED) as f64;
+        write!(
+            f,
+            "| {} | {} | {} | {:.2} | {:.2} | {:.2} | {:.1} | {:.0} | {:.0} | {:.0} |",
+            self.name,
+            self.gates,
+            self.wires,
+            1e3 * self.floor,
+            1e3 * self.load,
+            1e3 * self.link,
+            (self.load + self.link) / self.floor,
+            each(self.position),
+            each(self.slot_at),
+            each(self.dropped)
+        )
+    }
 }
 
 /// What loading asks of a list, tested once and outside the times.
