@@ -16,7 +16,7 @@ pub struct Spot {
 
 // ------------------------------------------------------------ the bits of a word
 
-// The word with a bit that it has not.
+// A word with one bit more.
 fn with_bit(word: u32, i: usize) -> u32
     requires { ⌜ (i < 32) × (bit word i ≡ 0) ⌝ }
     ensures { λ r. ⌜ r ≡ word + 2 ^ i ⌝ }
@@ -24,7 +24,7 @@ fn with_bit(word: u32, i: usize) -> u32
     word + (1 << i)
 }
 
-// The word without a bit that it has.
+// A word with one bit less.
 fn without_bit(word: u32, i: usize) -> u32
     requires { ⌜ (i < 32) × (bit word i ≡ 1) ⌝ }
     ensures { λ r. ⌜ r ≡ word - 2 ^ i ⌝ }
@@ -32,7 +32,7 @@ fn without_bit(word: u32, i: usize) -> u32
     word - (1 << i)
 }
 
-// The sum of the bits below one.
+// The sum of so many bits, from the lowest on.
 fn ones(word: u32, count: usize) -> u32
     requires { ⌜ count ≤ 32 ⌝ }
     ensures { λ r. ⌜ r ≡ below (bit word) count ⌝ }
@@ -48,7 +48,7 @@ fn ones(word: u32, count: usize) -> u32
     r
 }
 
-// The first bit below one that is more than what is left of a sum; the one itself where there is none.
+// The first of so many bits that is more than what is left of a sum; where there is none, their number.
 fn pick(word: u32, count: usize, sum: u32) -> Spot
     requires { ⌜ count ≤ 32 ⌝ }
     ensures place { λ r. ⌜ r .at ≤ count ⌝ }
