@@ -1,0 +1,2 @@
+-- The laws of the journal.
+pub mod SweepingLaws

@@ -1,0 +1,2 @@
+-- What a reader believes of a sweep's part in the journal.
+pub mod Sweeping
