@@ -2,6 +2,8 @@
 pub mod NodeLaws
 pub mod NodeHangLaws
 pub mod HeldLaws
+pub mod CutLaws
+pub mod MarkedLaws
 pub mod WireLaws
 pub mod RingsLaws
 pub mod PutLaws
