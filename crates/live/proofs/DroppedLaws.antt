@@ -13,19 +13,19 @@ use Rattle.gates.specs.Records.{recordAt, operandWords}
 use Rattle.rules.specs.Equal.{equal, isPair}
 use Rattle.links.specs.Words.{word, Within}
 use Rattle.links.specs.Seek.{nodeAt}
-use Rattle.links.proofs.WordLaws.{within-none, within-then, within-set}
+use Rattle.links.proofs.WordLaws.{within-none, within-then, within-set, past-first}
 use Rattle.links.proofs.SeekLaws.{without, latest-same, earliest-same}
 use Rattle.ranks.specs.Ranks.{Ranks, marks, Marked}
 use Rattle.ranks.proofs.KeepLaws.{ranks-same}
 use Rattle.slots.specs.declared.Extent.{Extent}
 use Rattle.slots.specs.Slots.{gateAt, Sound, leftOut}
-use Rattle.slots.specs.Live.{wordsFor, nodesFor, prevAt, ranksAt, pairsAt, pairPrevAt, isLive, endOf, onWire, equalTo, held, Partners, Live}
+use Rattle.slots.specs.Live.{wordsFor, nodesFor, prevAt, ranksAt, pairsAt, pairPrevAt, spareAt, isLive, endOf, onWire, equalTo, held, Partners, Live}
 use Rattle.slots.specs.Nodes.{joinedPast, CanPass, passedBy, CanPassAll}
 use Rattle.slots.proofs.WireLaws.{node, end, Touching, apart}
 use Rattle.slots.proofs.RingsLaws.{Back, Ahead, back-same, ahead-same, kept-on, kept-first}
 use Rattle.slots.proofs.RunLaws.{just, at-slot, has-none}
 use Rattle.slots.proofs.DropLaws.{just-touching, PassedAll, pass-all}
-use Rattle.slots.proofs.StateLaws.{within-room, live-same, live-mark, live-below, touching, loaded-back, forward-ahead, run-of, wires-are, record-is}
+use Rattle.slots.proofs.StateLaws.{live-same, live-mark, live-below, touching, loaded-back, forward-ahead, run-of, wires-are, record-is}
 use Rattle.live.proofs.GoneLaws.{before-small, after-small, can-unpair, gone-partners}
 use Rattle.live.proofs.LoadLaws.{back-stays}
 use Rattle.live.proofs.PopLaws.{live-then, live-gone, live-without, held-without, just-none}
@@ -252,12 +252,14 @@ module _ (k : Extent) (bytes was : List ℕ) (slot : ℕ) (live : isLive was k s
         pub drop-held : held bytes now k ≡ leftOut slot (held bytes was k)
         drop-held = held-without k bytes was unpaired now slot live marks-kept marked
 
-        pub drop-within : Within 0 (wordsFor k) was now
-        drop-within =
-            within-room k was now (omega (arith, slot<)) now-long
-            (λ x b.
-            now-past x (omega (arith, b)) ∙ unpaired-kept .same x (λ l. absurd (omega (arith, b, l))) ∙ passed-kept .same x (λ l. absurd (omega (arith, b, l))))
+        -- Past the links between equals no step has changed a word.
+        pub drop-within : Within 0 (spareAt k) was now
+        drop-within = record { long = now-long; same = λ x o. past x (past-first (spareAt k) x o) }
+          where
+            past : (x : ℕ) → spareAt k ≤ x → getD now x 0 ≡ getD was x 0
+            past x b =
+                now-past x (omega (arith, b)) ∙ unpaired-kept .same x (λ l. absurd (omega (arith, b, l))) ∙ passed-kept .same x (λ l. absurd (omega (arith, b, l)))
 
         -- All that the code promises of a gate that it drops.
-        pub dropped : Live bytes now k × ((held bytes now k ≡ leftOut slot (held bytes was k)) × Within 0 (wordsFor k) was now)
+        pub dropped : Live bytes now k × ((held bytes now k ≡ leftOut slot (held bytes was k)) × Within 0 (spareAt k) was now)
         dropped = (drop-live, (drop-held, drop-within))

@@ -8,7 +8,7 @@ ghost use Rattle.gates.specs.Gates.{wiresOf, has};
 ghost use Rattle.gates.specs.Records.{recordAt, recordOf, kindOf, ofKind};
 ghost use Rattle.links.specs.Words.{Within};
 ghost use Rattle.slots.specs.Slots.{gateAt, leftOut, rewritten};
-ghost use Rattle.slots.specs.Live.{wordsFor, pairsAt, pairPrevAt, isLive, held, Live};
+ghost use Rattle.slots.specs.Live.{pairsAt, pairPrevAt, spareAt, isLive, held, Live};
 ghost use Rattle.slots.specs.Nodes.{joinedPast, CanPass};
 use gates::Gate;
 use gates::Position;
@@ -37,7 +37,7 @@ pub fn drop_slot(records: &[u8], work: &mut [u32], k: Extent, slot: Slot)
     requires { ⌜ isLive (now work) k (slot .0) ≡ true ⌝ }
     ensures live { λ _. ⌜ Live (now (records .entry)) (now (work .exit)) k ⌝ }
     ensures dropped { λ _. ⌜ held (now (records .entry)) (now (work .exit)) k ≡ leftOut (slot .0) (held (now (records .entry)) (now (work .entry)) k) ⌝ }
-    ensures within { λ _. ⌜ Within 0 (wordsFor k) (now (work .entry)) (now (work .exit)) ⌝ }
+    ensures within { λ _. ⌜ Within 0 (spareAt k) (now (work .entry)) (now (work .exit)) ⌝ }
 {
     let r = records::record_at(records, Position(slot.0 as u32));
     let prev = 3 * k.gates + k.wires;

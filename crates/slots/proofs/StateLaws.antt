@@ -21,7 +21,7 @@ use Rattle.ranks.proofs.KeepLaws.{ranks-same}
 use Rattle.ranks.proofs.RegionLaws.{mark-past, marks-same}
 use Rattle.slots.specs.declared.Extent.{Extent}
 use Rattle.slots.specs.Slots.{gateIn, gateAt, Sound}
-use Rattle.slots.specs.Live.{wordsFor, nodesFor, prevAt, ranksAt, pairsAt, isLive, onWire, Loaded, Forward}
+use Rattle.slots.specs.Live.{wordsFor, nodesFor, prevAt, ranksAt, pairsAt, spareAt, isLive, onWire, Loaded, Forward}
 use Rattle.slots.specs.Nodes.{hung}
 use Rattle.slots.specs.Keeping.{KeepsLoaded}
 use Rattle.slots.proofs.WireLaws.{node, Touching, at-most-three, apart}
@@ -150,6 +150,13 @@ run-of bytes k s sound =
 -- The room that a list of one gate or more has: links, ranks, pairs, lists and a table fit into 16g + 4n words.
 pub room-enough : (k : Extent) → 0 < k .gates → pairsAt k + (2 * (k .gates + 1) + 2 * k .gates + 2 * k .wires) ≤ wordsFor k
 room-enough k some = omega (arith, some)
+
+pub spare-in-room : (k : Extent) → 0 < k .gates → spareAt k ≤ wordsFor k
+spare-in-room k some = omega (arith, room-enough k some)
+
+-- A change of links and ranks only is one within the room.
+pub links-in-room : (k : Extent) (was now : List ℕ) → 0 < k .gates → Within 0 (spareAt k) was now → Within 0 (wordsFor k) was now
+links-in-room k was now some = within-wider 0 (spareAt k) 0 (wordsFor k) was now (omega arith) (omega (arith, spare-in-room k some))
 
 -- A change that leaves all words past the links between equals leaves all past the room.
 pub within-room : (k : Extent) (was now : List ℕ) → 0 < k .gates → length now ≡ length was →

@@ -38,6 +38,10 @@ pairsAt k = ranksAt k + sizeFor (k .gates)
 abbrev pub pairPrevAt : Extent → ℕ
 pairPrevAt k = pairsAt k + (k .gates + 1)
 
+-- The words after the links: two lists of one word a slot and a table of two a wire, for whoever needs them for a while.
+abbrev pub spareAt : Extent → ℕ
+spareAt k = pairPrevAt k + (k .gates + 1)
+
 -- ------------------------------------------------------------ the list that is held
 
 unfoldable pub isLive : List ℕ → Extent → ℕ → Bool

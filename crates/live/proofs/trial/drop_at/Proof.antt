@@ -4,6 +4,7 @@ use mathlib.Core.Logic.{⊎-elim}
 use native.Mathlib.Omega.{arith}
 use borrow.Author.Needs.{needs}
 use Rattle.links.proofs.WordLaws.{within-none}
+use Rattle.slots.proofs.StateLaws.{links-in-room}
 use Rattle.live.proofs.TrialLaws.{SameList, same-bytes, own-known, own-asked, own-rewritten, dropped-none, same-dropped}
 use Rattle.live.proofs.trial.drop_at.Statement.{statement}
 use Rattle.live.proofs.trial.drop_at.Tie as tie
@@ -85,8 +86,10 @@ returns c =
     let dropped = c .before .before .drop-slot .ensures in
     let joined = c .before .before .before .before .before in
     let chosen = joined .before .before .before .before .before .before .before .before .before .before .before .before .before .before .before in
-    let kept = unchanged joined in
-    (dropped .0, (same-dropped _ _ _ _ _ _ _ kept (chosen .slot-at .ensures .0) (dropped .1 .0), (dropped .1 .1, kept .past)))
+    let kept = unchanged joined in (
+      dropped .0,
+      (same-dropped _ _ _ _ _ _ _ kept (chosen .slot-at .ensures .0) (dropped .1 .0), (links-in-room _ _ _ (omega (arith, chosen .slot-at .ensures .1 .1)) (dropped .1 .1), kept .past)),
+    )
 
 same-length-3 : tie.Need-same-length-3
 same-length-3 c = search needs
