@@ -1,2 +1,3 @@
 -- The laws of the journal.
 pub mod SweepingLaws
+pub mod TakenLaws

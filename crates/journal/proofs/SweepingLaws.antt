@@ -1,13 +1,13 @@
 -- A sweep's part in the journal: nothing, one more step, one part after another, and the whole.
-use mathlib.Core.Path.{_≡_, refl, sym, ap, ap₂, _∙_}
+use mathlib.Core.Path.{_≡_, refl, sym, ap, _∙_}
 use mathlib.Core.List.{List, [], _∷_, _++_, append-assoc, append-nil}
 use Prim.Native.Nat.{ℕ, suc, _+_, _*_, _≤_}
 use native.Mathlib.Omega.{arith}
 use lib.ListN.{length, length-append, set}
 use lib.Seq.{sets, length-sets}
-use Rattle.rules.specs.Steps.{Cell, Step, step}
+use Rattle.rules.specs.Steps.{Cell, Step}
 use Rattle.rules.specs.Journal.{stepBytes, journalBytes}
-use Rattle.rules.specs.Sweeps.{Done, idle, fire, and}
+use Rattle.rules.specs.Sweeps.{Done, idle, and}
 use Rattle.rules.proofs.JournalBytes.{journal-length}
 use Rattle.journal.specs.Sweeping.{Did, Went}
 

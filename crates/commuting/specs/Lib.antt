@@ -1,0 +1,2 @@
+-- What a reader believes of the commuting sweep in code.
+pub mod Walking

@@ -1,0 +1,2 @@
+-- What a reader believes of the pair sweep in code.
+pub mod Ahead
