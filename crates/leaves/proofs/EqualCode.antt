@@ -1,6 +1,6 @@
 -- What the code compares of two gates: their kinds, and the words of their records in canonical order.
 use mathlib.Core.Path.{_≡_, refl, ap, ap₂, _∙_}
-use mathlib.Core.Bool.{Bool, true, false, _&&_, _||_, and-true, and-assoc, or-false}
+use mathlib.Core.Bool.{Bool, true, false, _&&_, _||_, and-true, and-assoc, or-assoc, or-false}
 use mathlib.Core.List.{List, [], _∷_, _++_, append-nil}
 use Prim.Native.Nat.{ℕ}
 use lib.Dec.{eqb}
@@ -14,7 +14,7 @@ use Rattle.gates.specs.Gates.{wiresOf, has}
 use Rattle.gates.specs.Records.{kindOf, recordOf}
 use Rattle.leaves.specs.declared.equal.Three.{Three}
 use Rattle.rules.specs.Equal.{sorted, ordered, canonical, same, equal, seven, cancels}
-use Rattle.leaves.specs.Answers.{three, wordsOf}
+use Rattle.leaves.specs.Answers.{three, wordsOf, cancelsBy}
 use Rattle.rules.proofs.EqualLaws.{same-append}
 
 -- the last of three tests matters only where the first two pass
@@ -75,9 +75,9 @@ words-are (Cswap c a b) e = refl
 -- ------------------------------------------------------------ equal gates by their words
 
 -- gates of the seven kinds are equal where their kinds and all their words are
-equal-words : (a b : Gate) → has (kindOf a) seven && (eqb (kindOf a) (kindOf b) && same (words a) (words b)) ≡ cancels seven a b
-unfolding cancels equal
-equal-words a b = and-under _ _ _ _ same-words
+pub records-cancel : (a b : Gate) → cancelsBy (recordOf a) (recordOf b) ≡ cancels seven a b
+unfolding cancels equal cancelsBy
+records-cancel a b = and-under _ _ _ _ same-words
   where
     same-words : has (kindOf a) seven ≡ true → eqb (kindOf a) (kindOf b) ≡ true
         → same (words a) (words b) ≡ same (canonical a) (canonical b)
@@ -92,11 +92,16 @@ in-a-row : (self kind first second third : Bool)
 in-a-row self kind first second third = simp (and-assoc, and-true)
 
 -- what the code compares: the kinds of two records, and their words in order
-pub code-equal : (a b : Gate) (self : Bool) (r s : Record) (left right : Three) → self ≡ has (kindOf a) seven
-    → r ≡ recordOf a → s ≡ recordOf b
+pub code-equal : (self : Bool) (r s : Record) (left right : Three) → self ≡ has (r .kind) seven
     → three left ≡ ordered (r .kind) (wordsOf r) → three right ≡ ordered (s .kind) (wordsOf s)
     → self && eqb (r .kind) (s .kind) && eqb (left .first .0) (right .first .0) && eqb (left .second .0) (right .second .0)
-    && eqb (left .third .0) (right .third .0) ≡ cancels seven a b
-unfolding same
-code-equal a b self r s left right e p q l m =
-    rw in-a-row (ap₂ (λ (ws vs : List ℕ). self && (eqb (r .kind) (s .kind) && same ws vs)) l m ∙ rw (e, p, q) (equal-words a b))
+    && eqb (left .third .0) (right .third .0) ≡ cancelsBy r s
+unfolding same cancelsBy
+code-equal self r s left right e l m =
+    rw in-a-row (ap₂ (λ (ws vs : List ℕ). self && (eqb (r .kind) (s .kind) && same ws vs)) l m ∙ rw e)
+
+-- the code asks for each of the seven kinds
+pub code-seven : (kind : ℕ)
+    → eqb kind 1 || eqb kind 0 || eqb kind 4 || eqb kind 8 || eqb kind 9 || eqb kind 10 || eqb kind 11 ≡ has kind seven
+unfolding has
+code-seven kind = simp (or-assoc, or-false)

@@ -3,15 +3,20 @@ use mathlib.Core.Path.{_≡_, refl, sym}
 use mathlib.Core.Bool.{Bool, true, false, cond, _&&_, or-false}
 use mathlib.Core.List.{List, [], _∷_, map}
 use mathlib.Core.Option.{Option, some, none}
-use Prim.Native.Nat.{ℕ}
+use Prim.Native.Nat.{ℕ, _<_}
+use native.Mathlib.Omega.{arith}
 use lib.Dec.{eqb}
+use borrow.Author.Tests.{ne-eqb}
 use types.Run.{OneOf}
 use denote.Enum.Declared.{tagOf}
 use Rattle.gates.proofs.Gate.{the-type}
 use Rattle.gates.specs.declared.Gate.{Gate}
+use Rattle.gates.specs.declared.Gate.the-variants.{X, H, S, Sdg, Z, T, Tdg, Cnot, Cz, Ccx, Ccz, Measure, Reset, Y, Sx, Swap, Cy, Ch, Cswap}
 use Rattle.gates.specs.Gates.{wiresOf, has, touches}
-use Rattle.gates.specs.Records.{kindOf}
+use Rattle.gates.specs.Records.{kindOf, recordOf}
+use Rattle.gates.proofs.KindLaws.{NoneOf}
 use Rattle.rules.specs.Runs.{worth, worthOn}
+use Rattle.leaves.specs.Answers.{worthBy}
 use Rattle.rules.proofs.EqualLaws.{eqb-comm}
 use Rattle.leaves.proofs.VariantLaws.{Traits, traitsAt, by-place}
 
@@ -39,3 +44,47 @@ not-in-run on g ks h e = rw (by-place (λ (t : Traits). t .worth) none ks g h e)
     go : (b : Bool) → _≡_ {A = Option ℕ} none (cond b none none)
     go true = refl
     go false = refl
+
+-- ------------------------------------------------------------ what a gate of a kind is worth
+
+pub worth-by : (g : Gate) → worth g ≡ worthBy (kindOf g)
+unfolding worth worthBy recordOf
+worth-by (X w) = refl
+worth-by (H w) = refl
+worth-by (S w) = refl
+worth-by (Sdg w) = refl
+worth-by (Z w) = refl
+worth-by (T w) = refl
+worth-by (Tdg w) = refl
+worth-by (Cnot c t) = refl
+worth-by (Cz c t) = refl
+worth-by (Ccx c d t) = refl
+worth-by (Ccz c d t) = refl
+worth-by (Measure w b) = refl
+worth-by (Reset w) = refl
+worth-by (Y w) = refl
+worth-by (Sx w) = refl
+worth-by (Swap a b) = refl
+worth-by (Cy c t) = refl
+worth-by (Ch c t) = refl
+worth-by (Cswap c a b) = refl
+
+-- a kind that none of the code's arms names
+pub worth-else : (kind : ℕ) → NoneOf (6 ∷ 3 ∷ 4 ∷ 2 ∷ 5 ∷ []) kind → none ≡ worthBy kind
+unfolding worthBy
+worth-else kind n =
+    rw (ne-eqb kind 5 (n .0 .0 .0 .0 .1), ne-eqb kind 2 (n .0 .0 .0 .1), ne-eqb kind 4 (n .0 .0 .1), ne-eqb kind 3 (n .0 .1), ne-eqb kind 6 (n .1))
+
+-- a worth is less than a whole turn
+pub worth-small : (kind j : ℕ) → worthBy kind ≡ some j → j < 8
+unfolding worthBy
+worth-small kind =
+    small (eqb kind 5) 1 _ (omega arith)
+    (small (eqb kind 2) 2 _ (omega arith)
+    (small (eqb kind 4) 4 _ (omega arith)
+    (small (eqb kind 3) 6 _ (omega arith)
+    (small (eqb kind 6) 7 none (omega arith) (λ j e. let z : _≡_ {A = ℕ} 0 1 = cc in absurd (omega arith))))))
+  where
+    small : (b : Bool) (k : ℕ) (rest : Option ℕ) → k < 8 → ((j : ℕ) → rest ≡ some j → j < 8) → (j : ℕ) → cond b (some k) rest ≡ some j → j < 8
+    small true k rest k<8 h j e = let same : k ≡ j = cc in omega (arith, k<8, same)
+    small false k rest k<8 h j e = h j e

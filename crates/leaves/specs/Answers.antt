@@ -1,5 +1,5 @@
--- What the answers of the code stand for: wires in order, canonical pairs, a gate's worth.
-use mathlib.Core.Bool.{cond}
+-- What the answers of the code stand for: wires in order, equal gates, canonical pairs, a gate's worth.
+use mathlib.Core.Bool.{Bool, cond, _&&_}
 use mathlib.Core.List.{List, [], _∷_}
 use mathlib.Core.Option.{Option, some, none}
 use Prim.Native.Nat.{ℕ}
@@ -8,9 +8,9 @@ use Rattle.gates.specs.declared.Wire.{Wire}
 use Rattle.gates.specs.declared.Gate.{Gate}
 use Rattle.gates.specs.declared.Gate.the-variants as Gates
 use Rattle.gates.specs.declared.records.Record.{Record}
-use Rattle.gates.specs.Gates.{wire}
+use Rattle.gates.specs.Gates.{wire, has}
 use Rattle.gates.specs.Records.{kindOf}
-use Rattle.rules.specs.Equal.{canonical}
+use Rattle.rules.specs.Equal.{ordered, canonical, same, seven}
 use Rattle.leaves.specs.declared.equal.Two.{Two}
 use Rattle.leaves.specs.declared.equal.Three.{Three}
 use Rattle.leaves.specs.declared.pairs.CommutingPair.{CommutingPair}
@@ -28,6 +28,13 @@ three r = r .first .0 ∷ r .second .0 ∷ r .third .0 ∷ []
 
 abbrev pub wordsOf : Record → List ℕ
 wordsOf r = r .first ∷ r .second ∷ r .third ∷ []
+
+-- ------------------------------------------------------------ equal gates
+
+-- What the words of two records say of their gates: that they are equal and cancel.
+unfoldable pub cancelsBy : Record → Record → Bool
+cancelsBy x y =
+    has (x .kind) seven && (eqb (x .kind) (y .kind) && same (ordered (x .kind) (wordsOf x)) (ordered (y .kind) (wordsOf y)))
 
 -- ------------------------------------------------------------ canonical pairs
 
@@ -63,3 +70,12 @@ asGate (CommutingPair.Ccz a b c) = Gates.Ccz a b c
 abbrev pub eighthsOf : Worth → Option ℕ
 eighthsOf (Worth.Eighths k) = some k
 eighthsOf Worth.NotInRun = none
+
+-- What a gate of a kind is worth: t 1, s 2, z 4, sdg 6, tdg 7.
+unfoldable pub worthBy : ℕ → Option ℕ
+worthBy kind =
+    cond (eqb kind 5) (some 1)
+    (cond (eqb kind 2) (some 2)
+    (cond (eqb kind 4) (some 4)
+    (cond (eqb kind 3) (some 6)
+    (cond (eqb kind 6) (some 7) none))))

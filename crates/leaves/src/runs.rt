@@ -5,7 +5,7 @@ ghost use mathlib.Core.List.{[], _∷_};
 ghost use mathlib.Core.Option.{some, none};
 ghost use Rattle.gates.specs.Gates.{has};
 ghost use Rattle.rules.specs.Runs.{isHOn, isXOn, worthOn};
-ghost use Rattle.leaves.specs.Answers.{eighthsOf};
+ghost use Rattle.leaves.specs.Answers.{eighthsOf, worthBy};
 use gates::Gate;
 use gates::Wire;
 
@@ -55,5 +55,19 @@ fn if_on(w: Wire, on: Wire, eighths: u8) -> Worth
         Worth::Eighths(eighths)
     } else {
         Worth::NotInRun
+    }
+}
+
+// What a gate of a kind is worth in a run.
+pub fn worth_of(kind: u8) -> Worth
+    ensures { λ r. ⌜ eighthsOf r ≡ worthBy kind ⌝ }
+{
+    match kind {
+        5 => Worth::Eighths(1),
+        2 => Worth::Eighths(2),
+        4 => Worth::Eighths(4),
+        3 => Worth::Eighths(6),
+        6 => Worth::Eighths(7),
+        _ => Worth::NotInRun,
     }
 }
