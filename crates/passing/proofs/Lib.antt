@@ -1,2 +1,3 @@
 -- The laws of passing.
 pub mod PassingLaws
+pub mod QuickLaws

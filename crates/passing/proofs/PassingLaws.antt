@@ -46,7 +46,7 @@ unfolding has
 has-last [] w = rw (eq-eqb w w refl)
 has-last (v ∷ vs) w = rw (has-last vs w) (or-true (eqb w v))
 
-off-part : (vs us : List ℕ) (w : ℕ) → off w (vs ++ us) ≡ true → off w vs ≡ true
+pub off-part : (vs us : List ℕ) (w : ℕ) → off w (vs ++ us) ≡ true → off w vs ≡ true
 unfolding has
 off-part [] us w e = refl
 off-part (v ∷ vs) us w e = go (off-part vs us w) (eqb w v) refl

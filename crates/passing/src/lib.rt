@@ -1,4 +1,6 @@
 // Which gates may pass a pair.
+pub mod quick;
+
 ghost use mathlib.Core.Path.{_≡_};
 ghost use Rattle.gates.specs.declared.Gate.the-variants as Gates;
 ghost use Rattle.gates.specs.Gates.{touches};

@@ -1,0 +1,2 @@
+-- What the fast form of may-pass decides by.
+pub mod Quick
