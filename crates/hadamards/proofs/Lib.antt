@@ -1,1 +1,3 @@
 -- The laws of the Hadamard sweep in code.
+pub mod TriedLaws
+pub mod FiringLaws
