@@ -12,7 +12,7 @@ use Rattle.passing.specs.declared.quick.Past.{Past}
 use Rattle.passing.specs.Quick.{passesBy}
 use Rattle.commuting.specs.declared.walk.Ending.{Ending}
 use Rattle.commuting.specs.declared.walk.Walked.{Walked}
-use Rattle.commuting.specs.declared.walk.Look.{Look}
+use Rattle.commuting.specs.declared.walk.Seen.{Seen}
 
 abbrev pub endsAs : Ending → ℕ → Walk
 endsAs Ending.Reached looks = reached looks
@@ -21,10 +21,10 @@ endsAs Ending.Blocked looks = blocked looks
 abbrev pub asWalk : Walked → Walk
 asWalk w = endsAs (w .ending) (w .looks)
 
-unfoldable pub lookAt : List ℕ → List ℕ → Past → ℕ → ℕ → Look
+unfoldable pub lookAt : List ℕ → List ℕ → Past → ℕ → ℕ → Seen
 lookAt bytes words past partner node =
-    let on = cond (passesBy past (recordAt bytes (node / 3))) (Look.Past (getD words node 0)) Look.Blocker in
-    cond (eqb (node / 3) partner) Look.Partner on
+    let on = cond (passesBy past (recordAt bytes (node / 3))) (Seen.Passed (getD words node 0)) Seen.Blocker in
+    cond (eqb (node / 3) partner) Seen.Partner on
 
 -- The node behind a slot's own on the wire of one of its record's words.
 unfoldable pub nodeOf : List ℕ → ℕ → Record → ℕ → ℕ

@@ -32,25 +32,25 @@ pub struct Walked {
     pub looks: u64,
 }
 
-pub enum Look {
+pub enum Seen {
     Partner,
-    Past(usize),
+    Passed(usize),
     Blocker,
 }
 
 // One look, at the gate of a node: it is the partner, or it may pass and the next node on the wire is known, or it blocks.
-fn look(records: &[u8], work: &[u32], past: Past, partner: Slot, node: usize) -> Look
+fn look(records: &[u8], work: &[u32], past: Past, partner: Slot, node: usize) -> Seen
     requires { ⌜ (node < length (now work)) × (16 * (node / 3) + 16 ≤ length (now records)) × (node / 3 < 1048576) ⌝ }
     ensures { λ r. ⌜ r ≡ lookAt (now (records .entry)) (now (work .entry)) past (partner .0) node ⌝ }
 {
     let slot = node / 3;
     if slot == partner.0 {
-        return Look::Partner;
+        return Seen::Partner;
     }
     if quick::may_pass(past, records::record_at(records, Position(slot as u32))) {
-        Look::Past(work[node] as usize)
+        Seen::Passed(work[node] as usize)
     } else {
-        Look::Blocker
+        Seen::Blocker
     }
 }
 
@@ -115,7 +115,7 @@ pub fn walk_past(
     ensures { λ w. ⌜ asWalk w ≡ walkPast (gateAt (now (records .entry)) (slot .0)) (cellsFrom (isLive (now (work .entry)) k) (gateAt (now (records .entry))) (suc (slot .0)) (partner .0 - suc (slot .0))) ⌝ }
     ensures few { λ w. ⌜ w .looks ≤ 3 * k .gates ⌝ }
 {
-    let past = quick::past(pair);
+    let past = quick::past_of(pair);
     let r = records::record_at(records, Position(slot.0 as u32));
     let count = operands(pair);
     let mut at = starts(work, slot, r, pair);
@@ -129,14 +129,14 @@ pub fn walk_past(
                 looks += 1;
                 let seen = look(records, work, past, partner, node);
                 match seen {
-                    Look::Partner => {
+                    Seen::Partner => {
                         at[op] = 0;
                         open -= 1;
                     }
-                    Look::Past(next) => {
+                    Seen::Passed(next) => {
                         at[op] = next;
                     }
-                    Look::Blocker => {
+                    Seen::Blocker => {
                         ending = Ending::Blocked;
                         break 'walk;
                     }

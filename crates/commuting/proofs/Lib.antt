@@ -1,0 +1,1 @@
+-- The laws of the commuting sweep in code.

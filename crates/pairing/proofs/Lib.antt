@@ -1,0 +1,2 @@
+-- The laws of the pair sweep in code.
+pub mod TurnLaws
