@@ -13,6 +13,7 @@ use Rattle.gates.specs.Gates.{shares}
 use Rattle.rules.specs.Equal.{seven, cancels}
 use Rattle.rules.specs.Steps.{Cell, Cut, andThen, try, when}
 use Rattle.rules.specs.Sweeps.{Done, fire, cut, without, pairsFrom}
+use Rattle.rules.proofs.EqualLaws.{none-not-some}
 use Rattle.slots.specs.Slots.{cellOf, cellsFrom, cellsBelow, slotOf}
 use Rattle.slots.proofs.HeldLaws.{cells-same}
 use Rattle.slots.proofs.CutLaws.{CutBelow, cut-below-parts, below-same}
@@ -29,11 +30,11 @@ blocker-cut g gone c p = first (cut (shares g) gone) refl p
     second : (d : Cut ℕ) (b : Bool) → cancels seven (d .here .gate) g ≡ b → cut (shares g) gone ≡ some d → when b (some d) ≡ some c →
         (cut (shares g) gone ≡ some c) × (cancels seven (c .here .gate) g ≡ true)
     second d true q r s = (r ∙ s, let e : d ≡ c = cc in ap (λ x. cancels seven (x .here .gate) g) (sym e) ∙ q)
-    second d false q r s = absurd cc
+    second d false q r s = absurd (none-not-some _ s)
 
     first : (o : Option (Cut ℕ)) → cut (shares g) gone ≡ o → (andThen o λ d. when (cancels seven (d .here .gate) g) (some d)) ≡ some c →
         (cut (shares g) gone ≡ some c) × (cancels seven (c .here .gate) g ≡ true)
-    first none q r = absurd cc
+    first none q r = absurd (none-not-some _ r)
     first (some d) q r = second d (cancels seven (d .here .gate) g) refl q r
 
 -- No equal blocker: the gate stays.
@@ -45,7 +46,7 @@ turn-stays gone e l p = go (cut (shares (e .gate)) gone) p
     second : (d : Cut ℕ) (b : Bool) → when b (some d) ≡ none →
         cond b (fire 1 (length d.after) (length gone) (pairsFrom seven (without d) l)) (pairsFrom seven (e ∷ gone) l)
         ≡ pairsFrom seven (e ∷ gone) l
-    second d true q = absurd cc
+    second d true q = absurd (none-not-some _ (sym q))
     second d false q = refl
 
     go : (o : Option (Cut ℕ)) → (andThen o λ d. when (cancels seven (d .here .gate) (e .gate)) (some d)) ≡ none →
