@@ -1,17 +1,21 @@
 -- What the links, the pairs and the ranks of a live list answer: the slots that its list of cells names.
 use mathlib.Core.Path.{_≡_, refl, sym, ap, ap₂, _∙_}
 use mathlib.Core.Bool.{Bool, true, cond, _&&_}
-use mathlib.Core.List.{List}
+use mathlib.Core.List.{List, [], _∷_}
 use mathlib.Core.Option.{Option, some, none}
 use Prim.Native.Nat.{ℕ, zero, suc, _+_, _*_, _-_, _/_, _≤_, _<_}
 use native.Mathlib.Omega.{arith}
-use lib.ListN.{length, getD}
+use lib.ListN.{length, getD, take}
 use borrow.Author.Tests.{lt-ltb, le-ltb}
 use Rattle.gates.specs.declared.records.Record.{Record}
 use Rattle.gates.specs.declared.records.Decoded.{Decoded}
 use Rattle.gates.specs.Gates.{wiresOf, touches}
-use Rattle.gates.specs.Records.{recordAt, gateOf}
+use Rattle.gates.specs.Kinds.{rowOf}
+use Rattle.gates.specs.Records.{recordFrom, recordAt, gateOf, kindOf}
+use Rattle.gates.specs.Words.{byteAt, wordAt}
 use Rattle.gates.proofs.Joined.{and-right}
+use Rattle.gates.proofs.RecordLaws.{row-small, known-kind}
+use Rattle.gates.proofs.RoundTrip.{wires-words, encode-decode}
 use Rattle.rules.specs.Equal.{equal, isPair}
 use Rattle.rules.specs.Steps.{cutAt}
 use Rattle.rules.specs.Sweeps.{cut}
@@ -35,6 +39,25 @@ use Rattle.slots.proofs.StateLaws.{live-is, live-below, mark-live, gate-is, wir
 pub gate-read : (bytes : List ℕ) (slot : ℕ) (r : Record) (d e : Decoded) → r ≡ recordAt bytes slot → d ≡ gateOf r → d ≡ e →
     gateIn e ≡ gateAt bytes slot
 gate-read bytes slot r d e q f h = ap gateIn (sym h ∙ f ∙ ap gateOf q) ∙ sym (gate-is bytes slot)
+
+-- A count of one or more takes the first.
+first-taken : (count first : ℕ) (others : List ℕ) → 1 ≤ count → first ≡ getD (take count (first ∷ others)) 0 0
+first-taken zero first others h = absurd (omega arith)
+first-taken (suc count) first others h = refl
+
+-- The first byte of its record is its kind, the first word its first wire.
+module _ (bytes : List ℕ) (slot : ℕ) (reads : gateOf (recordAt bytes slot) ≡ Decoded.Gate (gateAt bytes slot)) where
+  pub kind-read : byteAt bytes (16 * slot) ≡ kindOf (gateAt bytes slot)
+  unfolding recordFrom
+  kind-read = sym (ap (λ (r : Record). r .kind) (encode-decode (recordAt bytes slot) (gateAt bytes slot) reads))
+
+  pub wire-read : wordAt bytes (16 * slot + 4) ≡ getD (wiresOf (gateAt bytes slot)) 0 0
+  unfolding recordFrom
+  wire-read =
+      let r = recordAt bytes slot in
+      let one = row-small (rowOf (r .kind)) (r .kind) refl (known-kind r (gateAt bytes slot) reads) .0 in
+      first-taken (rowOf (r .kind) .operands) (r .first) (r .second ∷ r .third ∷ []) one
+      ∙ sym (ap (λ (ws : List ℕ). getD ws 0 0) (wires-words r (gateAt bytes slot) reads))
 
 -- ------------------------------------------------------------ what a link names
 

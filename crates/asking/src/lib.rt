@@ -4,8 +4,9 @@ ghost use mathlib.Core.Bool.{true};
 ghost use mathlib.Core.Option.{some};
 ghost use Prim.Native.Nat.{_+_, _*_, _≤_, _<_};
 ghost use lib.ListN.{length, getD};
+ghost use Rattle.gates.specs.declared.records.Decoded.{Decoded};
 ghost use Rattle.gates.specs.Gates.{wiresOf, touches, shares};
-ghost use Rattle.gates.specs.Records.{recordAt};
+ghost use Rattle.gates.specs.Records.{kindOf, recordAt, gateOf};
 ghost use Rattle.rules.specs.Equal.{equal, isPair};
 ghost use Rattle.rules.specs.Steps.{cutAt};
 ghost use Rattle.rules.specs.Sweeps.{cut};
@@ -16,6 +17,7 @@ use gates::Position;
 use gates::Wire;
 use gates::records;
 use gates::records::Decoded;
+use gates::words;
 use slots::Extent;
 use slots::Found;
 use slots::Slot;
@@ -34,6 +36,24 @@ pub fn gate_at(records: &[u8], slot: Slot) -> Gate
         Decoded::Unknown => Gate::X(Wire(0)),
         Decoded::NotZero => Gate::X(Wire(0)),
     }
+}
+
+// The kind of the gate in a slot.
+pub fn kind_at(records: &[u8], slot: Slot) -> u8
+    requires { ⌜ 16 * slot .0 + 16 ≤ length (now records) ⌝ }
+    requires { ⌜ gateOf (recordAt (now records) (slot .0)) ≡ Decoded.Gate (gateAt (now records) (slot .0)) ⌝ }
+    ensures { λ kind. ⌜ kind ≡ kindOf (gateAt (now (records .entry)) (slot .0)) ⌝ }
+{
+    records[16 * slot.0]
+}
+
+// The first wire of the gate in a slot.
+pub fn wire_at(records: &[u8], slot: Slot) -> Wire
+    requires { ⌜ 16 * slot .0 + 16 ≤ length (now records) ⌝ }
+    requires { ⌜ gateOf (recordAt (now records) (slot .0)) ≡ Decoded.Gate (gateAt (now records) (slot .0)) ⌝ }
+    ensures { λ w. ⌜ w .0 ≡ getD (wiresOf (gateAt (now (records .entry)) (slot .0))) 0 0 ⌝ }
+{
+    Wire(words::word_at(records, 16 * slot.0 + 4))
 }
 
 // Whether a slot is live.
