@@ -1,8 +1,10 @@
 -- The firings of each wire, noted in spare words: for each wire the first and the last, for each closer the next and its opener.
 use mathlib.Core.Path.{_≡_}
-use mathlib.Core.Bool.{true}
+use mathlib.Core.Bool.{true, cond}
 use mathlib.Core.List.{List, [], _∷_, _++_}
 use Prim.Native.Nat.{ℕ, suc, _+_, _*_, _-_, _≤_, _<_}
+use lib.Dec.{eqb}
+use lib.ListN.{set}
 use Rattle.gates.specs.Gates.{All}
 use Rattle.rules.specs.Runs.{isHOn}
 use Rattle.links.specs.Words.{word}
@@ -41,6 +43,15 @@ behind from (f ∷ fs) = behind (suc f.closer) fs
 
 abbrev pub ChainOf : List ℕ → Extent → ℕ → List Firing → Type 0
 ChainOf words k w fs = Chained (word words (spareAt k)) (word words (openersAt k)) (word words (headsAt k) w) fs
+
+-- A firing as the last of a wire: the word that leads on from the last, the wire's last, and the words of the closer.
+abbrev pub linkAt : Extent → ℕ → List ℕ → ℕ
+linkAt k w words = cond (eqb (word words (tailsAt k) w) 0) (headsAt k + w) (spareAt k + (word words (tailsAt k) w - 1))
+
+abbrev pub notedIn : Extent → ℕ → ℕ → ℕ → List ℕ → List ℕ
+notedIn k w opener closer words =
+    set (set (set (set words (linkAt k w words) (suc closer)) (tailsAt k + w) (suc closer)) (spareAt k + closer) 0)
+    (openersAt k + closer) opener
 
 -- A wire's firings up to a slot are noted: with those to come they are all.
 pub record NotedTo (bytes words : List ℕ) (k : Extent) (w slot : ℕ) : Type 0 where
