@@ -1,10 +1,11 @@
--- Laws of bits: those below one, and a word with one bit more or less.
-use mathlib.Core.Path.{_≡_, refl, sym, ap, _∙_}
+-- Laws of bits: those below one and their number, and a word with one bit more or less.
+use mathlib.Core.Path.{_≡_, refl, sym, ap, ap₂, _∙_}
 use Prim.Native.Nat.{ℕ, zero, suc, _+_, _*_, _-_, _/_, _%_, _^_, _≤_, _<_}
-use native.Mathlib.Nat.{zero-div, div-one, one-mul}
+use native.Mathlib.Nat.{add-comm, mod-lt, mod-one, zero-div, div-one, one-mul}
 use native.Mathlib.Omega.{arith}
-use lib.Pow.{shl-exact, shr-shr}
-use Rattle.ranks.specs.Ranks.{bit}
+use lib.Pow.{pow-pos, shl-exact, shr-shr, mod-pow-add}
+use lib.Count.{ones, ones-cat}
+use Rattle.ranks.specs.Ranks.{bit, below}
 
 pub bit-small : (w i : ℕ) → bit w i ≤ 1
 bit-small w i = omega arith
@@ -12,12 +13,12 @@ bit-small w i = omega arith
 pub no-bits : (i : ℕ) → bit 0 i ≡ 0
 no-bits i = ap (λ (x : ℕ). x % 2) (zero-div (2 ^ i))
 
+one-more : (i : ℕ) → suc i ≡ 1 + i
+one-more i = omega arith
+
 -- A bit but the lowest is one of the half.
 bit-half : (w i : ℕ) → bit w (suc i) ≡ bit (w / 2) i
 bit-half w i = ap (λ (x : ℕ). w / 2 ^ x % 2) (one-more i) ∙ ap (λ (x : ℕ). x % 2) (sym (shr-shr w 1 i))
-  where
-    one-more : (i : ℕ) → suc i ≡ 1 + i
-    one-more i = omega arith
 
 -- One, shifted within a word.
 pub one-shifted : (i : ℕ) → i < 32 → (1 * 2 ^ i) % 2 ^ 32 ≡ 2 ^ i
@@ -32,6 +33,24 @@ shift-next w i = shr-shr w i 1
 
 twice-pow : (i : ℕ) → 2 ^ suc i ≡ 2 * 2 ^ i
 twice-pow i = omega arith
+
+-- ------------------------------------------------------------ the lowest bits
+
+ones-small : (b : ℕ) → b < 2 → ones b ≡ b
+unfolding ones
+ones-small zero l = refl
+ones-small (suc zero) l = refl
+ones-small (suc (suc b)) l = absurd (omega (arith, l))
+
+-- The set bits of the lowest so many: the highest of these is counted apart from the others.
+pub ones-below : (n w : ℕ) → ones (w % 2 ^ n) ≡ below (bit w) n
+unfolding below
+ones-below zero w = ap ones (mod-one w) ∙ ones-small 0 (omega arith)
+ones-below (suc n) w =
+    ap ones (ap (λ (x : ℕ). w % 2 ^ x) (one-more n) ∙ mod-pow-add w 1 n)
+    ∙ ones-cat n (bit w n) (w % 2 ^ n) (mod-lt w (pow-pos n))
+    ∙ ap₂ (λ (x y : ℕ). x + y) (ones-small (bit w n) (omega arith)) (ones-below n w)
+    ∙ add-comm (bit w n) (below (bit w) n)
 
 -- ------------------------------------------------------------ one bit more
 

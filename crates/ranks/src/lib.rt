@@ -34,18 +34,10 @@ fn without_bit(word: u32, i: usize) -> u32
 
 // The sum of so many bits, from the lowest on.
 fn ones(word: u32, count: usize) -> u32
-    requires { ⌜ count ≤ 32 ⌝ }
+    requires { ⌜ count < 32 ⌝ }
     ensures { λ r. ⌜ r ≡ below (bit word) count ⌝ }
 {
-    let mut r: u32 = 0;
-    let mut rest = word;
-    let mut i = 0;
-    while i < count {
-        r += rest % 2;
-        rest /= 2;
-        i += 1;
-    }
-    r
+    u32::count_ones(word % (1 << count))
 }
 
 // The first of so many bits that is more than what is left of a sum; where there is none, their number.

@@ -1,52 +1,25 @@
-use mathlib.Core.Path.{_≡_, sym, ap, _∙_}
-use Prim.Native.Nat.{ℕ, _-_, _/_, _%_, _^_, _≤_}
+use mathlib.Core.Path.{ap, _∙_}
+use Prim.Native.Nat.{ℕ, _%_}
 use native.Mathlib.Omega.{arith}
-use Rattle.ranks.specs.Ranks.{bit, below}
-use Rattle.ranks.proofs.BitLaws.{shift-none, shift-next}
-use Rattle.ranks.proofs.SumLaws.{below-none, below-next}
+use lib.Pow.{pow-pos}
+use lib.Count.{ones}
+use Rattle.ranks.proofs.BitLaws.{one-shifted, ones-below}
+use borrow.Author.Needs.{needs}
 use Rattle.ranks.proofs.ones.Statement.{statement}
 use Rattle.ranks.proofs.ones.Tie as tie
 
-abbrev Inv-loop : tie.InvT-loop
-Inv-loop word count r₀ rest₀ i₀ r rest i =
-    (i ≤ count) × (rest ≡ word / 2 ^ i) × (r ≡ below (bit word) i) × (r ≤ i)
+cast-result : tie.Need-cast-result
+cast-result c = search needs
 
-abbrev μ-loop : tie.MeasureT-loop
-μ-loop word count r₀ rest₀ i₀ r rest i =
-    count - i
+shl-result : tie.Need-shl-result
+shl-result c = search needs
 
-loop-holds : tie.Need-loop-holds Inv-loop μ-loop
-loop-holds c =
-    (omega arith, sym (shift-none (c .args .word)), sym (below-none (bit (c .args .word))), omega arith)
+rem-result : tie.Need-rem-result
+rem-result c = omega (arith, one-shifted (c .args .count) (c .pre), pow-pos (c .args .count))
 
-add-r : tie.Need-add-r Inv-loop μ-loop
-add-r c =
-    omega arith
-
-add-i : tie.Need-add-i Inv-loop μ-loop
-add-i c =
-    omega arith
-
-loop-less : tie.Need-loop-less Inv-loop μ-loop
-loop-less c =
-    omega arith
-
-loop-again : tie.Need-loop-again Inv-loop μ-loop
-loop-again c =
-    let at-loop = c .before in
-    let inv = at-loop .loop .inv in
-    let w = at-loop .before .args .word in (
-      omega arith,
-      ap (λ (x : ℕ). x / 2) (inv .1) ∙ shift-next w (at-loop .loop .i),
-      omega (arith, below-next (bit w) (at-loop .loop .i), ap (λ (x : ℕ). x % 2) (inv .1)),
-      omega arith,
-    )
-
-returns : tie.Need-returns Inv-loop μ-loop
+returns : tie.Need-returns
 returns c =
-    let end : c .before .loop .i ≡ c .before .before .args .count = omega arith in
-    c .before .loop .inv .2 ∙ ap (below _) end
+    ap (λ (x : ℕ). ones (c .args .word % x)) (one-shifted (c .args .count) (c .pre)) ∙ ones-below (c .args .count) (c .args .word)
 
 pub ones-spec : {M : Type 1} → statement M
-ones-spec =
-    tie.close (tie.spec Inv-loop μ-loop loop-holds add-r add-i loop-less loop-again returns)
+ones-spec = tie.close (tie.spec cast-result shl-result rem-result returns)
