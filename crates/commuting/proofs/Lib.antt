@@ -1,1 +1,2 @@
 -- The laws of the commuting sweep in code.
+pub mod NodeLaws
