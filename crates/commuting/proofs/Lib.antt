@@ -1,2 +1,7 @@
 -- The laws of the commuting sweep in code.
 pub mod NodeLaws
+pub mod QueueLaws
+pub mod TrackLaws
+pub mod WalkLaws
+pub mod StartLaws
+pub mod LoopLaws

@@ -1,15 +1,16 @@
 -- What one look and the start of a walk read in the words, by cases.
-use mathlib.Core.Path.{_≡_, refl, sym, _∙_}
-use mathlib.Core.Bool.{true, false, cond}
+use mathlib.Core.Path.{_≡_, refl, sym, ap, _∙_}
+use mathlib.Core.Bool.{Bool, true, false, cond}
 use mathlib.Core.List.{List, [], _∷_, map}
 use mathlib.Core.Logic.{_⊎_, inl, inr}
 use Prim.Native.Nat.{ℕ, _+_, _*_, _/_}
-use lib.Dec.{ltb}
+use native.Mathlib.Omega.{arith}
+use lib.Dec.{eqb, ltb}
 use types.Run.{OneOf}
 use denote.Enum.Declared.{tagOf}
 use Rattle.gates.specs.declared.Wire.{Wire}
 use lib.ListN.{length, getD}
-use borrow.Author.Tests.{eq-eqb, ne-eqb}
+use borrow.Author.Tests.{eqb-true, eqb-false, eq-eqb, ne-eqb}
 use Rattle.gates.specs.declared.records.Record.{Record}
 use Rattle.gates.specs.Gates.{wiresOf}
 use Rattle.gates.specs.Records.{recordAt}
@@ -23,6 +24,16 @@ use Rattle.commuting.specs.declared.walk.Seen.{Seen}
 use Rattle.commuting.specs.Walking.{lookAt, nodeOf, startsOf}
 
 -- ------------------------------------------------------------ a look
+
+abbrev variant : Seen → ℕ
+variant Seen.Partner = 0
+variant (Seen.Passed next) = 1
+variant Seen.Blocker = 2
+
+abbrev nextOf : Seen → ℕ
+nextOf Seen.Partner = 0
+nextOf (Seen.Passed next) = next
+nextOf Seen.Blocker = 0
 
 module _ (bytes words : List ℕ) (past : Past) (partner node : ℕ) where
   pub look-partner : node / 3 ≡ partner → lookAt bytes words past partner node ≡ Seen.Partner
@@ -42,6 +53,36 @@ module _ (bytes words : List ℕ) (past : Past) (partner node : ℕ) where
   pub look-blocked : (node / 3 ≡ partner → ⊥) → passesBy past (recordAt bytes (node / 3)) ≡ false →
       lookAt bytes words past partner node ≡ Seen.Blocker
   look-blocked d e = rw (look-behind d, e) refl
+
+  -- What an answer tells.
+  module _ (seen : Seen) (is : seen ≡ lookAt bytes words past partner node) where
+    by-cases : {P : Type 0} → (node / 3 ≡ partner → seen ≡ Seen.Partner → P) →
+        ((node / 3 ≡ partner → ⊥) → passesBy past (recordAt bytes (node / 3)) ≡ true → seen ≡ Seen.Passed (getD words node 0) → P) →
+        ((node / 3 ≡ partner → ⊥) → passesBy past (recordAt bytes (node / 3)) ≡ false → seen ≡ Seen.Blocker → P) → P
+    by-cases {P} f g h = go (eqb (node / 3) partner) refl (passesBy past (recordAt bytes (node / 3))) refl
+      where
+        go : (b : Bool) → eqb (node / 3) partner ≡ b → (c : Bool) → passesBy past (recordAt bytes (node / 3)) ≡ c → P
+        go true e c q = f (eqb-true _ _ e) (is ∙ look-partner (eqb-true _ _ e))
+        go false e true q = g (eqb-false _ _ e) q (is ∙ look-passed (eqb-false _ _ e) q)
+        go false e false q = h (eqb-false _ _ e) q (is ∙ look-blocked (eqb-false _ _ e) q)
+
+    two : (a b : Seen) → seen ≡ a → seen ≡ b → (variant a ≡ variant b → ⊥) → ⊥
+    two a b p q d = d (ap variant (sym p ∙ q))
+
+    pub partner-told : seen ≡ Seen.Partner → node / 3 ≡ partner
+    partner-told e =
+        by-cases (λ p q. p) (λ d p q. absurd (two _ _ q e (λ z. omega (arith, z)))) (λ d p q. absurd (two _ _ q e (λ z. omega (arith, z))))
+
+    pub passed-told : (next : ℕ) → seen ≡ Seen.Passed next →
+        (node / 3 ≡ partner → ⊥) × (passesBy past (recordAt bytes (node / 3)) ≡ true) × (next ≡ getD words node 0)
+    passed-told next e =
+        by-cases (λ p q. absurd (two _ _ q e (λ z. omega (arith, z)))) (λ d p q. (d, p, ap nextOf (sym e ∙ q)))
+        (λ d p q. absurd (two _ _ q e (λ z. omega (arith, z))))
+
+    pub blocker-told : seen ≡ Seen.Blocker → (node / 3 ≡ partner → ⊥) × (passesBy past (recordAt bytes (node / 3)) ≡ false)
+    blocker-told e =
+        by-cases (λ p q. absurd (two _ _ q e (λ z. omega (arith, z)))) (λ d p q. absurd (two _ _ q e (λ z. omega (arith, z))))
+        (λ d p q. (d, p))
 
 -- ------------------------------------------------------------ the node behind a slot's own
 
