@@ -1,13 +1,13 @@
 -- The pair sweep while a list is loaded: what one turn does, and all of them.
 use mathlib.Core.Path.{_≡_, refl, sym, ap, ap₂, subst, _∙_}
 use mathlib.Core.Bool.{Bool, true, false, not, cond, _&&_}
-use mathlib.Core.List.{List, [], _∷_, _++_, reverse, reverse-cons, reverse-append, reverse-reverse, append-nil, append-cancel-left, tail-eq-of-cons-eq}
+use mathlib.Core.List.{List, [], _∷_, _++_, reverse, reverse-cons, reverse-reverse, append-nil, append-cancel-left, tail-eq-of-cons-eq}
 use mathlib.Core.Option.{some}
 use Prim.Native.Nat.{ℕ, _+_, _*_, _-_, _≤_, _<_}
 use native.Mathlib.Omega.{arith}
 use lib.Dec.{eqb}
 use lib.ListN.{length, length-append, length-reverse, drop}
-use lib.Seq.{sets, length-sets}
+use lib.Seq.{sets}
 use Rattle.gates.specs.declared.Gate.{Gate}
 use Rattle.gates.specs.Gates.{wiresOf, shares, All}
 use Rattle.gates.specs.Records.{recordAt, recordBytes}
@@ -23,7 +23,7 @@ use Rattle.links.proofs.WordLaws.{within-none, within-then}
 use Rattle.slots.specs.declared.Slot.{Slot}
 use Rattle.slots.specs.declared.Found.{Found}
 use Rattle.slots.specs.declared.Extent.{Extent}
-use Rattle.slots.specs.Slots.{gateAt, cellOf, cellsFrom, cellsBelow, slotOf, leftOut, found}
+use Rattle.slots.specs.Slots.{gateAt, cellOf, cellsFrom, slotOf, leftOut, found}
 use Rattle.slots.specs.Live.{wordsFor, isLive, held, earlier, later, Loaded}
 use Rattle.slots.proofs.StateLaws.{live-below}
 use Rattle.slots.proofs.CutLaws.{CutBelow, cut-below-parts, below-same, below-reverse, held-parts}
@@ -86,16 +86,17 @@ popped-rest bytes words now k p c b at part popped =
 
 -- ------------------------------------------------------------ one turn
 
+-- Of the gates below a place so many are loaded, each into the slot of its place, and two have gone for each step.
+abbrev Counts : Extent → List ℕ → List ℕ → ℕ → ℕ → Type 0
+Counts k bytes words place steps =
+    All (λ (e : Cell ℕ). e .beside < place) (held bytes words k) × (length (held bytes words k) + 2 * steps ≡ place)
+
 module _ (bytes words list : List ℕ) (k : Extent) (place steps : ℕ) (inside : place < k .gates) where
   abbrev gone : List (Cell ℕ)
   gone = earlier bytes words k (k .gates)
 
   abbrev rest : List (Cell ℕ)
   rest = cellsFrom (λ i. true) (gateAt list) (place + 1) (k .gates - (place + 1))
-
-  abbrev Counts : List ℕ → List ℕ → ℕ → ℕ → Type 0
-  Counts records work at s =
-      All (λ (e : Cell ℕ). e .beside < at) (held records work k) × (length (held records work k) + 2 * s ≡ at)
 
   first-ahead : loadAhead bytes words k list place ≡ pairsFrom seven gone (cellOf (gateAt list) place ∷ rest)
   first-ahead = ap (pairsFrom seven gone) (from-next (λ i. true) (gateAt list) place (k .gates) true refl inside)
@@ -111,7 +112,7 @@ module _ (bytes words list : List ℕ) (k : Extent) (place steps : ℕ) (inside 
           (first-ahead ∙ turn-stays gone (cellOf (gateAt list) place) rest (found-none (equalBlocker (gateAt list place) gone) answer said free)
           ∙ ap (λ (l : List (Cell ℕ)). pairsFrom seven l rest) (sym (pushed-latest bytes bytes′ words words′ k (cellOf (gateAt list) place) pushed)))
 
-      pub load-counts : Counts bytes words place steps → Counts bytes′ words′ (place + 1) steps
+      pub load-counts : Counts k bytes words place steps → Counts k bytes′ words′ (place + 1) steps
       load-counts (below, count) = (
         subst (λ (l : List (Cell ℕ)). All (λ (e : Cell ℕ). e .beside < place + 1) l) (sym pushed)
             (all-pushed (λ e. e .beside < place + 1) (held bytes words k) (cellOf (gateAt list) place) (all-wider place (held bytes words k) below) (omega arith)),
@@ -187,7 +188,7 @@ module _ (bytes words list : List ℕ) (k : Extent) (place steps : ℕ) (inside 
         left : without c ≡ earlier bytes now k (k .gates)
         left = popped-rest bytes words now k (shares (gateAt list place)) c (b .0) (parted .slot) part popped
 
-        pub pop-went : Counts bytes words place steps → (journal written : List ℕ) (first : ℕ) →
+        pub pop-went : Counts k bytes words place steps → (journal written : List ℕ) (first : ℕ) →
             first ≡ length (earlier bytes words k (b .0)) →
             written ≡ sets journal (16 * steps) (stepBytes (step 1 first (place - 2 * steps))) →
             Went (loadAhead bytes words k list place) (loadAhead bytes now k list (place + 1)) 0 steps (steps + 1) journal written
@@ -197,7 +198,7 @@ module _ (bytes words list : List ℕ) (k : Extent) (place steps : ℕ) (inside 
             (fires ∙ ap (λ (l : List (Cell ℕ)). fire 1 (length (earlier bytes words k (b .0))) (length gone) (pairsFrom seven l rest)) left)
             (w ∙ ap₂ (λ (x y : ℕ). sets journal (16 * steps) (stepBytes (step 1 x y))) p last)
 
-        pub pop-counts : Counts bytes words place steps → Counts bytes now (place + 1) (steps + 1)
+        pub pop-counts : Counts k bytes words place steps → Counts k bytes now (place + 1) (steps + 1)
         pop-counts (below, count) = (
           subst (λ (l : List (Cell ℕ)). All (λ (e : Cell ℕ). e .beside < place + 1) l) (sym popped)
               (all-left (λ e. e .beside < place + 1) (b .0) (held bytes words k) (all-wider place (held bytes words k) below)),
@@ -212,3 +213,80 @@ module _ (bytes words list : List ℕ) (k : Extent) (place steps : ℕ) (inside 
             length-append (c .before) (c .here ∷ c .after),
           ),
         )
+
+-- A record that is put into a slot leaves all past the slots.
+pub load-past : (bytes bytes′ list : List ℕ) (gates place : ℕ) → place < gates →
+    bytes′ ≡ sets bytes (16 * place) (recordBytes (recordAt list place)) → drop (16 * gates) bytes′ ≡ drop (16 * gates) bytes
+load-past bytes bytes′ list gates place inside stored =
+    ap (drop (16 * gates)) stored
+    ∙ drop-sets bytes (recordBytes (recordAt list place)) (16 * place) (16 * gates) (omega (arith, inside, bytes-long (recordAt list place)))
+
+-- ------------------------------------------------------------ all turns
+
+-- The gates of a list below a place have had their turns: they are loaded, or they have gone in pairs.
+pub record PairedTo (list records₀ work₀ journal₀ : List ℕ) (k : Extent) (i : ℕ) (records work journal : List ℕ) (steps : ℕ) : Type 0 where
+  pub inside : i ≤ k .gates
+  pub loaded : Loaded records work k
+  pub counts : Counts k records work i steps
+  pub went : Went (pairSweep seven (wholeList list (k .gates))) (loadAhead records work k list i) 0 0 steps journal₀ journal
+  pub within : Within 0 (wordsFor k) work₀ work
+  pub past : drop (16 * k .gates) records ≡ drop (16 * k .gates) records₀
+  pub long : length records ≡ length records₀
+
+-- Before the first turn all is to come, after the last nothing.
+list-ahead : (list bytes words : List ℕ) (k : Extent) → held bytes words k ≡ [] →
+    pairSweep seven (wholeList list (k .gates)) ≡ loadAhead bytes words k list 0
+unfolding pairSweep
+list-ahead list bytes words k empty =
+    let all : k .gates ≡ k .gates - 0 = omega arith in
+    ap₂ (λ (l : List (Cell ℕ)) (n : ℕ). pairsFrom seven l (cellsFrom (λ i. true) (gateAt list) 0 n))
+    (ap reverse (sym (turned bytes words k ∙ empty)) ∙ reverse-reverse (earlier bytes words k (k .gates))) all
+
+list-done : (list bytes words : List ℕ) (k : Extent) → loadAhead bytes words k list (k .gates) ≡ idle (held bytes words k)
+unfolding pairsFrom cellsFrom
+list-done list bytes words k =
+    let nothing : k .gates - k .gates ≡ 0 = omega arith in
+    ap (λ (n : ℕ). pairsFrom seven (earlier bytes words k (k .gates)) (cellsFrom (λ i. true) (gateAt list) (k .gates) n)) nothing
+    ∙ ap (λ (l : List (Cell ℕ)). idle l) (turned bytes words k)
+
+pub paired-none : (list records work journal : List ℕ) (k : Extent) → Loaded records work k → held records work k ≡ [] →
+    PairedTo list records work journal k 0 records work journal 0
+paired-none list records work journal k loaded empty =
+    record {
+      inside = omega arith;
+      loaded = loaded;
+      counts = subst (λ (l : List (Cell ℕ)). All (λ (e : Cell ℕ). e .beside < 0) l × (length l + 2 * 0 ≡ 0)) (sym empty) (tt, refl);
+      went = went-none _ _ 0 journal (list-ahead list records work k empty);
+      within = within-none 0 (wordsFor k) work;
+      past = refl;
+      long = refl;
+    }
+
+module _ (list records₀ work₀ journal₀ : List ℕ) (k : Extent) (i : ℕ) (records work journal : List ℕ) (steps : ℕ)
+    (to : PairedTo list records₀ work₀ journal₀ k i records work journal steps) where
+  pub paired-fits : 16 * length ((pairSweep seven (wholeList list (k .gates))) .steps) ≤ length journal₀ →
+      16 * (steps + length ((loadAhead records work k list i) .steps)) ≤ length journal
+  paired-fits room = went-fits _ _ 0 0 steps journal₀ journal (to .went) (omega (arith, room))
+
+  pub paired-more : (records′ work′ journal′ : List ℕ) (s : ℕ) → i < k .gates → length records′ ≡ length records → Loaded records′ work′ k →
+      Counts k records′ work′ (i + 1) s →
+      Went (loadAhead records work k list i) (loadAhead records′ work′ k list (i + 1)) 0 steps s journal journal′ →
+      Within 0 (wordsFor k) work work′ → drop (16 * k .gates) records′ ≡ drop (16 * k .gates) records →
+      PairedTo list records₀ work₀ journal₀ k (i + 1) records′ work′ journal′ s
+  paired-more records′ work′ journal′ s m long loaded counts went within past =
+      record {
+        inside = omega arith;
+        loaded = loaded;
+        counts = counts;
+        went = went-on _ _ _ 0 0 0 steps s journal₀ journal journal′ (to .went) went;
+        within = within-then 0 (wordsFor k) work₀ work work′ (to .within) within;
+        past = past ∙ to .past;
+        long = long ∙ to .long;
+      }
+
+  pub paired-all : k .gates ≤ i → Did (pairSweep seven (wholeList list (k .gates))) (held records work k) 0 steps journal₀ journal
+  paired-all m =
+      let end : i ≡ k .gates = omega (arith, to .inside) in
+      went-did _ _ 0 0 steps journal₀ journal
+      (subst (λ (d : Done ℕ). Went (pairSweep seven (wholeList list (k .gates))) d 0 0 steps journal₀ journal)
+      (ap (loadAhead records work k list) end ∙ list-done list records work k) (to .went))
