@@ -5,3 +5,6 @@ pub mod TrackLaws
 pub mod WalkLaws
 pub mod StartLaws
 pub mod LoopLaws
+pub mod SweepLaws
+pub mod AheadLaws
+pub mod TurnLaws
