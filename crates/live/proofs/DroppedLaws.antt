@@ -2,7 +2,7 @@
 use mathlib.Core.Path.{_≡_, refl, sym, ap, subst, _∙_}
 use mathlib.Core.Bool.{Bool, true, false, cond, not, _&&_, false≢true}
 use mathlib.Core.List.{List, [], _∷_}
-use Prim.Native.Nat.{ℕ, suc, _+_, _*_, _-_, _≤_, _<_, _/_}
+use Prim.Native.Nat.{ℕ, suc, _+_, _*_, _≤_, _<_, _/_}
 use native.Mathlib.Omega.{arith}
 use lib.Dec.{eqb}
 use lib.ListN.{length, getD, set}
@@ -10,21 +10,21 @@ use Rattle.gates.specs.declared.Gate.{Gate}
 use Rattle.gates.specs.declared.records.Record.{Record}
 use Rattle.gates.specs.Gates.{has, wiresOf}
 use Rattle.gates.specs.Records.{recordAt, operandWords}
-use Rattle.rules.specs.Equal.{equal, isPair}
+use Rattle.rules.specs.Equal.{isPair}
 use Rattle.links.specs.Words.{word, Within}
-use Rattle.links.specs.Seek.{nodeAt}
 use Rattle.links.proofs.WordLaws.{within-none, within-then, within-set, past-first}
-use Rattle.links.proofs.SeekLaws.{without, latest-same, earliest-same}
+use Rattle.links.proofs.SeekLaws.{without}
 use Rattle.ranks.specs.Ranks.{Ranks, marks, Marked}
 use Rattle.ranks.proofs.KeepLaws.{ranks-same}
 use Rattle.slots.specs.declared.Extent.{Extent}
 use Rattle.slots.specs.Slots.{gateAt, Sound, leftOut}
-use Rattle.slots.specs.Live.{wordsFor, nodesFor, prevAt, ranksAt, pairsAt, pairPrevAt, spareAt, isLive, endOf, onWire, equalTo, held, Partners, Live}
+use Rattle.slots.specs.Live.{wordsFor, nodesFor, prevAt, ranksAt, pairsAt, pairPrevAt, spareAt, isLive, endOf, onWire, held, Partners, Live}
 use Rattle.slots.specs.Nodes.{joinedPast, CanPass, passedBy, CanPassAll}
 use Rattle.slots.proofs.WireLaws.{node, end, Touching, apart}
 use Rattle.slots.proofs.RingsLaws.{Back, Ahead, back-same, ahead-same, kept-on, kept-first}
 use Rattle.slots.proofs.RunLaws.{just, at-slot, has-none}
 use Rattle.slots.proofs.DropLaws.{just-touching, PassedAll, pass-all}
+use Rattle.slots.proofs.SpareLaws.{partners-kept}
 use Rattle.slots.proofs.StateLaws.{live-same, live-mark, live-below, touching, loaded-back, forward-ahead, run-of, wires-are, record-is}
 use Rattle.live.proofs.GoneLaws.{before-small, after-small, can-unpair, gone-partners}
 use Rattle.live.proofs.LoadLaws.{back-stays}
@@ -40,30 +40,6 @@ ahead-stays gates slots wires f g on nodes ends h =
       each = λ w m. kept-on gates slots wires on on w (λ i k. refl) f g (λ i k t. nodes w i m k t) (h .each w m);
       first = λ w m. kept-first gates slots wires on on w (λ i k. refl) f g (ends w m) (h .first w m);
     }
-
--- Links to equals where live pairs, their equals and the words of their links agree.
-pub partners-carried : (k : Extent) (bytes bytes′ was now : List ℕ) →
-    ((i : ℕ) → isLive now k i ≡ true → isPair (gateAt bytes′ i) ≡ true → (isLive was k i ≡ true) × (isPair (gateAt bytes i) ≡ true)) →
-    ((i j : ℕ) → isPair (gateAt bytes′ i) ≡ true → isLive now k i ≡ true → equalTo bytes was k i j ≡ equalTo bytes′ now k i j) →
-    ((i : ℕ) → i < k .gates → word now (pairPrevAt k) (suc i) ≡ word was (pairPrevAt k) (suc i)) →
-    ((i : ℕ) → i < k .gates → word now (pairsAt k) (suc i) ≡ word was (pairsAt k) (suc i)) → Partners bytes was k → Partners bytes′ now k
-partners-carried k bytes bytes′ was now lives equals backs ons p =
-    record {
-      back = λ i t u. backs i (live-below now k i t) ∙ p .back i (lives i t u .0) (lives i t u .1)
-          ∙ ap (nodeAt suc 0) (latest-same (equalTo bytes was k i) (equalTo bytes′ now k i) i (λ l m. equals i l u t));
-      on = λ i t u. ons i (live-below now k i t) ∙ p .on i (lives i t u .0) (lives i t u .1)
-          ∙ ap (nodeAt suc 0) (earliest-same (equalTo bytes was k i) (equalTo bytes′ now k i) (suc i) (k .gates - suc i) (k .gates) (whole (live-below now k i t)) (λ l a m. equals i l u t));
-    }
-  where
-    whole : {i : ℕ} → i < k .gates → suc i + (k .gates - suc i) ≡ k .gates
-    whole l = omega (arith, l)
-
-pub partners-kept : (k : Extent) (bytes was now : List ℕ) → ((i : ℕ) → isLive now k i ≡ isLive was k i) →
-    ((i : ℕ) → i < k .gates → word now (pairPrevAt k) (suc i) ≡ word was (pairPrevAt k) (suc i)) →
-    ((i : ℕ) → i < k .gates → word now (pairsAt k) (suc i) ≡ word was (pairsAt k) (suc i)) → Partners bytes was k → Partners bytes now k
-partners-kept k bytes was now lives backs ons p =
-    partners-carried k bytes bytes was now (λ i t u. (sym (lives i) ∙ t, u))
-    (λ i j u t. ap (λ (b : Bool). b && equal (gateAt bytes i) (gateAt bytes j)) (sym (lives j))) backs ons p
 
 -- ------------------------------------------------------------ its nodes are passed by
 

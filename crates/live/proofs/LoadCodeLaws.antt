@@ -26,10 +26,10 @@ use Rattle.slots.specs.Nodes.{Closed, takenOff, InRoom}
 use Rattle.slots.specs.Keeping.{KeepsLoaded}
 use Rattle.live.specs.Filling.{FilledTo}
 use Rattle.slots.proofs.HeldLaws.{cells-same}
+use Rattle.slots.proofs.SpareLaws.{partners-kept}
 use Rattle.slots.proofs.StateLaws.{live-is, live-mark, live-below, live-same, gate-is, known, operands-small, Hangs, hang-within, room-enough, keeps-marks, keeps-loaded, keeps-links, keeps-then}
 use Rattle.live.proofs.ForwardLaws.{filled-more, filled-within}
 use Rattle.live.proofs.LoadLaws.{begin-loaded, begin-empty, free-slot, push-loaded, push-held, push-within}
-use Rattle.live.proofs.DroppedLaws.{partners-kept}
 use Rattle.live.proofs.PopLaws.{take-within, pop-loaded, pop-held, pop-within}
 
 -- ------------------------------------------------------------ an empty list

@@ -20,9 +20,9 @@ use Rattle.slots.specs.Slots.{gateIn, gateAt, Sound, rewritten}
 use Rattle.slots.specs.Live.{prevAt, isLive, operandOf, nodeOn, endOf, onWire, equalTo, held, Live}
 use Rattle.slots.proofs.HeldLaws.{cells-rewritten}
 use Rattle.slots.proofs.RunLaws.{at-slot}
+use Rattle.slots.proofs.SpareLaws.{partners-carried}
 use Rattle.slots.proofs.StateLaws.{live-below, gate-is, record-is, wires-small, wires-once}
 use Rattle.rules.proofs.EqualLaws.{equal-pair}
-use Rattle.live.proofs.DroppedLaws.{partners-carried}
 
 -- A gate of one wire is no cnot, cz, ccx or ccz.
 one-wire : (g : Gate) → length (wiresOf g) ≡ 1 → isPair g ≡ false

@@ -16,7 +16,7 @@ use Rattle.slots.proofs.HeldLaws.{cells-same}
 -- ------------------------------------------------------------ one slot more
 
 module _ (live : ℕ → Bool) (gates : ℕ → Gate) where
-  from-next : (i count : ℕ) (b : Bool) → live i ≡ b →
+  pub from-next : (i count : ℕ) (b : Bool) → live i ≡ b →
       cellsFrom live gates i (suc count) ≡ cond b (cellOf gates i ∷ cellsFrom live gates (suc i) count) (cellsFrom live gates (suc i) count)
   unfolding cellsFrom
   from-next i count b e =

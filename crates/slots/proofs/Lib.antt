@@ -11,3 +11,4 @@ pub mod RunLaws
 pub mod DropLaws
 pub mod FillLaws
 pub mod StateLaws
+pub mod SpareLaws

@@ -171,14 +171,15 @@ pub keeps-marks : (k : Extent) (was now : List ℕ) → KeepsLoaded k was now �
 keeps-marks k was now keeps = live-same was now k (λ x a b. keeps .inside x (omega arith) (omega arith))
 
 -- A list stays loaded where links back and ranks stay.
-pub keeps-loaded : (bytes : List ℕ) (k : Extent) (was now : List ℕ) → KeepsLoaded k was now → Loaded bytes was k → Loaded bytes now k
-keeps-loaded bytes k was now keeps l =
+pub loaded-same : (bytes : List ℕ) (k : Extent) (was now : List ℕ) → length now ≡ length was →
+    ((x : ℕ) → nodesFor k ≤ x → x < pairsAt k → getD now x 0 ≡ getD was x 0) → Loaded bytes was k → Loaded bytes now k
+loaded-same bytes k was now long inside l =
     record {
       few = l .few;
       narrow = l .narrow;
       long = l .long;
-      room = subst (λ (x : ℕ). wordsFor k ≤ x) (sym (keeps .long)) (l .room);
-      ranks = λ some. ranks-same was now (ranksAt k) (k .gates) (keeps .long) (λ x a b. keeps .inside x (omega arith) b) (l .ranks some);
+      room = subst (λ (x : ℕ). wordsFor k ≤ x) (sym long) (l .room);
+      ranks = λ some. ranks-same was now (ranksAt k) (k .gates) long (λ x a b. inside x (omega arith) b) (l .ranks some);
       sound = λ i t. l .sound i (sym (marks-stay i) ∙ t);
       back = λ w m. kept-back (gateAt bytes) (k .gates) (k .wires) (onWire bytes was k) (onWire bytes now k) w (λ i n. on-same w i)
           (word was (prevAt k)) (word now (prevAt k)) (λ i n t. prev-stays (node (gateAt bytes) (k .gates) (k .wires) w i) (node-small w i m n t))
@@ -188,16 +189,19 @@ keeps-loaded bytes k was now keeps l =
     }
   where
     marks-stay : (i : ℕ) → isLive now k i ≡ isLive was k i
-    marks-stay = keeps-marks k was now keeps
+    marks-stay = live-same was now k (λ x a b. inside x (omega arith) (omega arith))
 
     on-same : (w i : ℕ) → onWire bytes was k w i ≡ onWire bytes now k w i
     on-same w i = ap (λ (b : Bool). b && touches w (gateAt bytes i)) (sym (marks-stay i))
 
     prev-stays : (x : ℕ) → x < nodesFor k → word now (prevAt k) x ≡ word was (prevAt k) x
-    prev-stays x m = keeps .inside (prevAt k + x) (omega arith) (omega arith)
+    prev-stays x m = inside (prevAt k + x) (omega arith) (omega arith)
 
     node-small : (w i : ℕ) → w < k .wires → i < k .gates → onWire bytes was k w i ≡ true → node (gateAt bytes) (k .gates) (k .wires) w i < nodesFor k
     node-small w i m n t = apart (gateAt bytes) (k .gates) (k .wires) (onWire bytes was k) (touching bytes was k) w m .small i n t
+
+pub keeps-loaded : (bytes : List ℕ) (k : Extent) (was now : List ℕ) → KeepsLoaded k was now → Loaded bytes was k → Loaded bytes now k
+keeps-loaded bytes k was now keeps = loaded-same bytes k was now (keeps .long) (keeps .inside)
 
 -- Changes that keep a list loaded.
 pub keeps-none : (k : Extent) (words : List ℕ) → KeepsLoaded k words words
