@@ -12,7 +12,7 @@ use gates::records;
 use slots::Extent;
 
 // Makes so many bytes from a place on 0.
-fn clear_bytes(bytes: &mut [u8], at: usize, count: usize)
+pub fn clear_bytes(bytes: &mut [u8], at: usize, count: usize)
     requires { ⌜ at + count ≤ length (now bytes) ⌝ }
     ensures { λ _. ⌜ now (bytes .exit) ≡ zeroed at count (now (bytes .entry)) ⌝ }
 {

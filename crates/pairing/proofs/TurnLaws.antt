@@ -19,7 +19,7 @@ use Rattle.slots.specs.Slots.{cellOf, cellsFrom, cellsBelow}
 use Rattle.slots.proofs.HeldLaws.{cells-same}
 use Rattle.slots.proofs.CutLaws.{CutBelow, cut-below-parts, below-same}
 use Rattle.pairing.specs.Ahead.{equalBlocker}
-use Rattle.pairing.proofs.FoundLaws.{PartedAt}
+use Rattle.slots.proofs.AnswerLaws.{PartedAt}
 
 -- ------------------------------------------------------------ on lists
 

@@ -12,3 +12,4 @@ pub mod DropLaws
 pub mod FillLaws
 pub mod StateLaws
 pub mod SpareLaws
+pub mod AnswerLaws

@@ -1,0 +1,2 @@
+-- The laws of the pass in code.
+pub mod RepeatLaws

@@ -1,0 +1,2 @@
+-- What a reader believes of the pass.
+pub mod Cancelling

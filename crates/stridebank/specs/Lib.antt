@@ -1,0 +1,2 @@
+-- What a reader believes of the C boundary.
+pub mod Boundary
