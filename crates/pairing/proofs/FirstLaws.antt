@@ -87,7 +87,7 @@ popped-rest bytes words now k p c b at part popped =
 -- ------------------------------------------------------------ one turn
 
 -- Of the gates below a place so many are loaded, each into the slot of its place, and two have gone for each step.
-abbrev Counts : Extent → List ℕ → List ℕ → ℕ → ℕ → Type 0
+abbrev pub Counts : Extent → List ℕ → List ℕ → ℕ → ℕ → Type 0
 Counts k bytes words place steps =
     All (λ (e : Cell ℕ). e .beside < place) (held bytes words k) × (length (held bytes words k) + 2 * steps ≡ place)
 

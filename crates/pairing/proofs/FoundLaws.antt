@@ -34,7 +34,7 @@ unfolding cancels
 kind-too a b e =
     subst (λ (kind : ℕ). has kind seven ≡ true) (equal-parts a b (cancels-equal seven a b e) .0) (and-left (has (kindOf a) seven) _ e)
 
-pub no-kind : (g : Gate) (gone : List (Cell ℕ)) → has (kindOf g) seven ≡ false → equalBlocker g gone ≡ none
+no-kind : (g : Gate) (gone : List (Cell ℕ)) → has (kindOf g) seven ≡ false → equalBlocker g gone ≡ none
 unfolding equalBlocker
 no-kind g gone off = go (cut (shares g) gone)
   where
@@ -89,7 +89,7 @@ module _ (bytes words list : List ℕ) (k : Extent) (i place : ℕ) (s : Record)
       part : CutBelow (isLive words k) (gateAt bytes) (shares g) i (parted .parts)
       part = cut-below-parts (isLive words k) (gateAt bytes) (shares g) i (parted .parts) (parted .is)
 
-      pub blocker-live : isLive words k (b .0) ≡ true
+      blocker-live : isLive words k (b .0) ≡ true
       blocker-live = subst (λ (x : ℕ). isLive words k x ≡ true) (parted .slot) (part .live-here)
 
       pub blocker-inside : b .0 < k .gates
