@@ -4,7 +4,7 @@ use mathlib.Core.List.{List, [], _∷_, _++_}
 use Prim.Native.Nat.{ℕ, zero, suc, _+_, _*_, _≤_, _<_}
 use native.Mathlib.Omega.{arith}
 use lib.ListN.{length, length-append}
-use lib.Seq.{sets, length-sets}
+use lib.Seq.{sets}
 use Rattle.rules.specs.Equal.{seven}
 use Rattle.rules.specs.Steps.{Cell, Step}
 use Rattle.rules.specs.Journal.{journalBytes}
@@ -120,18 +120,3 @@ module _ (f : Sweep ℕ) (replays : Replays seven f) where
 
       pub again-lower : size held < size l
       again-lower = fired _ λ x s e. subst (λ m. size m < size l) (sym (did .list)) (lower l x s e)
-
--- ------------------------------------------------------------ room and looks for what is to come
-
-module _ (from to : Done ℕ) (looks before after : ℕ) (was now : List ℕ) (went : Went from to looks before after was now) where
-  pub room-left : 16 * (before + length (from .steps)) ≤ length was → 16 * (after + length (to .steps)) ≤ length now
-  room-left h =
-      omega (
-        arith,
-        went .count,
-        ap length (went .all),
-        length-append (went .steps) (to .steps),
-        ap length (went .journal),
-        length-sets was (16 * before) (journalBytes (went .steps)),
-        h,
-      )

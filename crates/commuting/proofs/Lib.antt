@@ -8,3 +8,4 @@ pub mod LoopLaws
 pub mod SweepLaws
 pub mod AheadLaws
 pub mod TurnLaws
+pub mod SweptLaws

@@ -4,19 +4,23 @@ use mathlib.Core.Bool.{Bool, true, false, not, cond, _&&_, false≢true}
 use mathlib.Core.List.{List, [], _∷_, _++_}
 use mathlib.Core.Option.{Option, some, none}
 use Prim.Native.Nat.{ℕ, suc, _+_, _*_, _-_, _≤_, _<_}
+use native.Mathlib.Numerals.{add-one}
 use native.Mathlib.Omega.{arith}
-use lib.Dec.{eqb}
-use lib.ListN.{length, length-reverse}
+use lib.Dec.{eqb, leb}
+use lib.ListN.{length, length-append, length-reverse}
 use lib.Seq.{sets}
+use Rattle.gates.specs.declared.Wire.{Wire}
 use Rattle.gates.specs.declared.Gate.{Gate}
-use Rattle.rules.specs.Equal.{equal, isPair}
+use Rattle.gates.specs.declared.Gate.the-variants.{X, H, S, Sdg, Z, T, Tdg, Cnot, Cz, Ccx, Ccz, Measure, Reset, Y, Sx, Swap, Cy, Ch, Cswap}
+use Rattle.gates.specs.Gates.{has, wiresOf}
+use Rattle.gates.specs.Records.{recordOf}
+use Rattle.rules.specs.Equal.{inserted, sorted, ordered, canonical, equal, isPair}
 use Rattle.rules.specs.Steps.{Cell, Cut, Step, step, when}
 use Rattle.rules.specs.Journal.{stepBytes}
 use Rattle.rules.specs.Sweeps.{Done, Walk, reached, blocked, cut, look, fire, walkPast, commutingSweep}
 use Rattle.leaves.specs.declared.pairs.CommutingPair.{CommutingPair}
 use Rattle.leaves.specs.declared.pairs.Paired.{Paired}
-use Rattle.leaves.specs.Answers.{pairOf}
-use Rattle.leaves.proofs.PairLaws.{is-pair}
+use Rattle.leaves.specs.Answers.{onTwo, onThree, pairOf}
 use Rattle.slots.specs.declared.Extent.{Extent}
 use Rattle.slots.specs.declared.Slot.{Slot}
 use Rattle.slots.specs.declared.Found.{Found}
@@ -37,6 +41,70 @@ pub place-is : (bytes words : List ℕ) (k : Extent) (s : ℕ) →
     length (earlier bytes words k s) ≡ length (cellsFrom (isLive words k) (gateAt bytes) 0 s)
 place-is bytes words k s =
     sym (length-reverse (earlier bytes words k s)) ∙ ap length (below-reverse (isLive words k) (gateAt bytes) s)
+
+-- Looks counted another way.
+pub went-counted : (from to : Done ℕ) (looks n before after : ℕ) (was now : List ℕ) → Went from to looks before after was now → looks ≡ n →
+    Went from to n before after was now
+went-counted from to looks n before after was now p e = subst (λ (x : ℕ). Went from to x before after was now) e p
+
+-- ------------------------------------------------------------ pairs
+
+insert-length : (a : ℕ) (l : List ℕ) → length (inserted a l) ≡ suc (length l)
+unfolding inserted
+insert-length a [] = refl
+insert-length a (b ∷ l) = go (leb a b) (insert-length a l)
+  where
+    go : (t : Bool) → length (inserted a l) ≡ suc (length l) → length (cond t (a ∷ b ∷ l) (b ∷ inserted a l)) ≡ suc (suc (length l))
+    go true h = refl
+    go false h = ap suc h
+
+sorted-length : (l : List ℕ) → length (sorted l) ≡ length l
+unfolding sorted
+sorted-length [] = refl
+sorted-length (a ∷ l) = insert-length a (sorted l) ∙ ap suc (sorted-length l)
+
+pair-other : (p : CommutingPair) → Paired.Pair p ≡ Paired.Other → ⊥
+pair-other p e = let z : _≡_ {A = ℕ} 0 1 = cc in absurd (omega arith)
+
+two-wires : (f : Wire → Wire → CommutingPair) (l : List ℕ) → 2 ≤ length l → onTwo f l ≡ Paired.Other → ⊥
+two-wires f [] h p = omega (arith, h)
+two-wires f (a ∷ []) h p = omega (arith, h)
+two-wires f (a ∷ b ∷ l) h p = pair-other _ p
+
+three-wires : (f : Wire → Wire → Wire → CommutingPair) (l : List ℕ) → 3 ≤ length l → onThree f l ≡ Paired.Other → ⊥
+three-wires f [] h p = omega (arith, h)
+three-wires f (a ∷ []) h p = omega (arith, h)
+three-wires f (a ∷ b ∷ []) h p = omega (arith, h)
+three-wires f (a ∷ b ∷ c ∷ l) h p = pair-other _ p
+
+-- What has no canonical pair is no pair.
+pub other-no-pair : (g : Gate) → pairOf g ≡ Paired.Other → isPair g ≡ false
+unfolding pairOf canonical ordered has recordOf wiresOf
+other-no-pair (X w) p = refl
+other-no-pair (H w) p = refl
+other-no-pair (S w) p = refl
+other-no-pair (Sdg w) p = refl
+other-no-pair (Z w) p = refl
+other-no-pair (T w) p = refl
+other-no-pair (Tdg w) p = refl
+other-no-pair (Measure w b) p = refl
+other-no-pair (Reset w) p = refl
+other-no-pair (Y w) p = refl
+other-no-pair (Sx w) p = refl
+other-no-pair (Swap a b) p = refl
+other-no-pair (Cy a b) p = refl
+other-no-pair (Ch a b) p = refl
+other-no-pair (Cswap a b c) p = refl
+other-no-pair (Cnot a b) p = absurd (pair-other _ p)
+other-no-pair (Cz a b) p =
+    let l = a .0 ∷ b .0 ∷ [] in
+    absurd (two-wires CommutingPair.Cz (sorted l ++ []) (omega (arith, length-append (sorted l) [], sorted-length l)) p)
+other-no-pair (Ccx a b c) p =
+    let l = a .0 ∷ b .0 ∷ [] in
+    absurd (three-wires CommutingPair.Ccx (sorted l ++ (c .0 ∷ [])) (omega (arith, length-append (sorted l) (c .0 ∷ []), sorted-length l)) p)
+other-no-pair (Ccz a b c) p =
+    let l = a .0 ∷ b .0 ∷ c .0 ∷ [] in
+    absurd (three-wires CommutingPair.Ccz (sorted l) (omega (arith, sorted-length l)) p)
 
 -- A gate that is no pair stays.
 not-pair : (g : Gate) (o : Option (Cut ℕ)) → isPair g ≡ false → when (isPair g) o ≡ none
@@ -152,11 +220,13 @@ module _ (bytes words : List ℕ) (k : Extent) (s : ℕ) (inside : s < k .gates)
                 ap₂ (step 2) (sym (place-is bytes words k s))
                 (ap (λ t. length (cellsFrom (isLive words k) (gateAt bytes) 0 t)) (parted .slot) ∙ sym (place-is bytes words k (other .0)))
 
-            pub turn-reached : (n : ℕ) (journal journal′ : List ℕ) →
+            pub turn-reached : (n looks : ℕ) (journal journal′ : List ℕ) →
                 journal′ ≡ sets journal (16 * n) (stepBytes (step 2 (length (earlier bytes words k s)) (length (earlier bytes words k (other .0))))) →
-                Went (commutingAhead bytes words k s) (commutingAhead bytes now k (s + 1)) (w .looks) n (suc n) journal journal′
-            turn-reached n journal journal′ q =
-                went-step _ _ (step 2 (length (earlier bytes words k s)) (length (earlier bytes words k (other .0)))) (w .looks) n journal journal′
+                w .looks ≡ looks → Went (commutingAhead bytes words k s) (commutingAhead bytes now k (s + 1)) looks n (n + 1) journal journal′
+            turn-reached n looks journal journal′ q e =
+                subst (λ (m : ℕ). Went (commutingAhead bytes words k s) (commutingAhead bytes now k (s + 1)) looks n m journal journal′) (sym (add-one n))
+                (went-counted _ _ (w .looks) looks n (suc n) journal journal′
+                (went-step _ _ (step 2 (length (earlier bytes words k s)) (length (earlier bytes words k (other .0)))) (w .looks) n journal journal′
                 (ap (λ d. d .list) goes)
                 (ap (λ d. d .steps) goes ∙ ap (λ x. x ∷ (commutingAhead bytes now k (s + 1)) .steps) taken-step)
-                (ap (λ d. d .looks) goes) q
+                (ap (λ d. d .looks) goes) q) e)

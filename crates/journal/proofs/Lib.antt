@@ -1,3 +1,4 @@
 -- The laws of the journal.
 pub mod SweepingLaws
 pub mod TakenLaws
+pub mod WentLaws

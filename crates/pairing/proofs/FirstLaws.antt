@@ -34,7 +34,7 @@ use Rattle.journal.proofs.SweepingLaws.{went-none, went-on, went-did}
 use Rattle.journal.proofs.TakenLaws.{left-out}
 use Rattle.pairing.specs.Ahead.{equalBlocker, loadAhead}
 use Rattle.slots.proofs.AnswerLaws.{PartedAt, found-parted, found-none}
-use Rattle.pairing.proofs.WentLaws.{room-for, went-fire, went-fits}
+use Rattle.journal.proofs.WentLaws.{room-for, went-fire, went-fits}
 use Rattle.pairing.proofs.TurnLaws.{blocker-cut, turn-stays, turn-fires, from-next}
 
 -- ------------------------------------------------------------ every cell

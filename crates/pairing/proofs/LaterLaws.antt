@@ -22,7 +22,7 @@ use Rattle.journal.specs.Sweeping.{Did, Went, TakenOut}
 use Rattle.journal.proofs.SweepingLaws.{went-none, went-on, went-did}
 use Rattle.pairing.specs.Ahead.{equalBlocker, pairsAhead}
 use Rattle.slots.proofs.AnswerLaws.{PartedAt, found-parted, found-none}
-use Rattle.pairing.proofs.WentLaws.{room-for, went-fire, went-fits}
+use Rattle.journal.proofs.WentLaws.{room-for, went-fire, went-fits}
 use Rattle.pairing.proofs.TurnLaws.{slot-skipped, slot-stays, parted-live, parted-below, slots-fire, slots-go}
 
 -- ------------------------------------------------------------ one turn

@@ -1,46 +1,53 @@
+-- `commuting::sweep::cancel_commuting_pairs` meets its contract.
+use Prim.Native.Nat.{_-_}
+use native.Mathlib.Omega.{arith}
+use Rattle.journal.proofs.WentLaws.{went-long}
+use Rattle.commuting.proofs.SweptLaws.{SweptTo, swept-none, swept-fits, swept-looks, swept-more, swept-all, swept-counted}
 use Rattle.commuting.proofs.sweep.cancel_commuting_pairs.Statement.{statement}
 use Rattle.commuting.proofs.sweep.cancel_commuting_pairs.Tie as tie
-use Rattle.commuting.proofs.sweep.cancel_commuting_pairs.Reads as reads
-use Rattle.commuting.proofs.sweep.cancel_commuting_pairs.Lts as lts
-use Rattle.commuting.proofs.sweep.cancel_at.Reads as cancel-at-reads
 
 abbrev Inv-loop : tie.InvT-loop
-Inv-loop records work₀ journal₀ k steps swept₀ i₀ i-end work journal swept i = ?
+Inv-loop records work₀ journal₀ k steps swept₀ i₀ i-end work journal swept i = SweptTo records work₀ journal₀ k steps i work journal (swept .steps) (swept .looks)
 
 abbrev μ-loop : tie.MeasureT-loop
-μ-loop records work₀ journal₀ k steps swept₀ i₀ i-end work journal swept i = ?
+μ-loop records work₀ journal₀ k steps swept₀ i₀ i-end work journal swept i = k .gates - i
 
--- src/sweep.rt:115:5
 loop-holds : tie.Need-loop-holds Inv-loop μ-loop
-loop-holds c = ?
+loop-holds c = swept-none _ _ _ _ _ (c .before .before .before .pre .0)
 
--- src/sweep.rt:116:9
 cancel-at-requires : tie.Need-cancel-at-requires Inv-loop μ-loop
-cancel-at-requires c κs = ?
+cancel-at-requires c κs =
+    let looping = c .before .before in
+    let start = looping .before .before .before .before .before in
+    let to = looping .before .loop .inv in (
+      to .live,
+      (looping .loop-test .taken, (swept-fits _ _ _ _ _ _ _ _ _ _ to (start .pre .1 .0), swept-looks _ _ _ _ _ _ _ _ _ _ to (start .pre .1 .1))),
+    )
 
--- src/sweep.rt:115:9
 add-i : tie.Need-add-i Inv-loop μ-loop
-add-i c = ?
+add-i c = omega arith
 
--- src/sweep.rt:115:5
 loop-less : tie.Need-loop-less Inv-loop μ-loop
-loop-less c = ?
+loop-less c = omega arith
 
--- src/sweep.rt:115:5
 loop-again : tie.Need-loop-again Inv-loop μ-loop
-loop-again c = ?
+loop-again c =
+    let turn = c .before .before .before .before in
+    let looping = turn .before .before .before in
+    let got = turn .cancel-at .ensures in
+    swept-more _ _ _ _ _ _ _ _ _ _ (looping .before .loop .inv) _ _ _ _ (looping .loop-test .taken) (got .0) (got .1 .0) (got .1 .1 .0) (got .1 .1 .1)
 
--- src/sweep.rt:99:1
 same-length : tie.Need-same-length Inv-loop μ-loop
-same-length c = ?
+same-length c = c .before .loop .inv .within .long
 
--- src/sweep.rt:99:1
 same-length-2 : tie.Need-same-length-2 Inv-loop μ-loop
-same-length-2 c = ?
+same-length-2 c = went-long _ _ _ _ _ _ _ (c .before .loop .inv .went)
 
--- src/sweep.rt:99:1
 returns : tie.Need-returns Inv-loop μ-loop
-returns c = ?
+returns c =
+    let to = c .before .loop .inv in
+    let over = c .loop-test .left in
+    (to .live, (swept-all _ _ _ _ _ _ _ _ _ _ to over, (swept-counted _ _ _ _ _ _ _ _ _ _ to over, to .within)))
 
 pub cancel-commuting-pairs-spec : {M : Type 1} → statement M
 cancel-commuting-pairs-spec =

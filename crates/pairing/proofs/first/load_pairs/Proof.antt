@@ -4,7 +4,7 @@ use Prim.Native.Nat.{_-_}
 use native.Mathlib.Omega.{arith}
 use borrow.Author.Needs.{needs}
 use Rattle.links.proofs.WordLaws.{within-then}
-use Rattle.pairing.proofs.WentLaws.{went-long}
+use Rattle.journal.proofs.WentLaws.{went-long}
 use Rattle.pairing.proofs.FirstLaws.{PairedTo, paired-none, paired-fits, paired-more, paired-all}
 use Rattle.pairing.proofs.first.load_pairs.Statement.{statement}
 use Rattle.pairing.proofs.first.load_pairs.Tie as tie

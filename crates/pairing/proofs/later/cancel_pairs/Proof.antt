@@ -1,7 +1,7 @@
 -- `pairing::later::cancel_pairs` meets its contract.
 use Prim.Native.Nat.{_-_}
 use native.Mathlib.Omega.{arith}
-use Rattle.pairing.proofs.WentLaws.{went-long}
+use Rattle.journal.proofs.WentLaws.{went-long}
 use Rattle.pairing.proofs.LaterLaws.{SweptTo, swept-none, swept-fits, swept-more, swept-all}
 use Rattle.pairing.proofs.later.cancel_pairs.Statement.{statement}
 use Rattle.pairing.proofs.later.cancel_pairs.Tie as tie
