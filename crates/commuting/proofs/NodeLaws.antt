@@ -101,7 +101,7 @@ module _ (words : List ℕ) (slot : ℕ) (r : Record) (w : ℕ) where
 
 -- ------------------------------------------------------------ the wires of a pair, by its variant
 
-pub wires-by : (pair : CommutingPair) → length (wiresOf (asGate pair)) ≡ cond (ltb (tagOf the-type pair) 2) 2 3
+wires-by : (pair : CommutingPair) → length (wiresOf (asGate pair)) ≡ cond (ltb (tagOf the-type pair) 2) 2 3
 unfolding wiresOf asGate
 wires-by (CommutingPair.Cnot a b) = refl
 wires-by (CommutingPair.Cz a b) = refl

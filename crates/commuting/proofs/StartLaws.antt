@@ -71,7 +71,7 @@ node-at words slot r w = go (eqb (r .first) w) (eqb (r .second) w)
 
 -- ------------------------------------------------------------ the nodes, operand by operand
 
-pub starts-long : (words : List ℕ) (slot : ℕ) (r : Record) (pair : CommutingPair) → length (startsOf words slot r pair) ≡ 3
+starts-long : (words : List ℕ) (slot : ℕ) (r : Record) (pair : CommutingPair) → length (startsOf words slot r pair) ≡ 3
 starts-long words slot r (CommutingPair.Cnot a b) = refl
 starts-long words slot r (CommutingPair.Cz a b) = refl
 starts-long words slot r (CommutingPair.Ccx a b c) = refl

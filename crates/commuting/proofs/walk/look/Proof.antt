@@ -29,10 +29,14 @@ cast-t16 : tie.Need-cast-t16
 cast-t16 c = omega (arith, c .shared-slice-known3 .given (c .before .before .before .before .before .before .before .before .args .node))
 
 returns-2 : tie.Need-returns-2
-returns-2 c = sym (look-passed _ _ _ _ _ (c .before .before .before .before .if1 .left) (ap (passesBy _) (sym (c .before .before .before .record-at .ensures)) ∙ sym (c .before .before .may-pass .ensures) ∙ c .before .if2 .taken))
+returns-2 c =
+    sym (look-passed _ _ _ _ _ (c .before .before .before .before .if1 .left)
+    (ap (passesBy _) (sym (c .before .before .before .record-at .ensures)) ∙ sym (c .before .before .may-pass .ensures) ∙ c .before .if2 .taken))
 
 returns-3 : tie.Need-returns-3
-returns-3 c = sym (look-blocked _ _ _ _ _ (c .before .before .before .if1 .left) (ap (passesBy _) (sym (c .before .before .record-at .ensures)) ∙ sym (c .before .may-pass .ensures) ∙ c .if2 .left))
+returns-3 c =
+    sym (look-blocked _ _ _ _ _ (c .before .before .before .if1 .left)
+    (ap (passesBy _) (sym (c .before .before .record-at .ensures)) ∙ sym (c .before .may-pass .ensures) ∙ c .if2 .left))
 
 pub look-spec : {M : Type 1} → statement M
 look-spec =

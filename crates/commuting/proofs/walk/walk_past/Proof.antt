@@ -1,6 +1,6 @@
 -- `commuting::walk::walk_past` meets its contract.
 use mathlib.Core.Path.{_≡_, refl, sym, ap, _∙_}
-use Prim.Native.Nat.{_*_, _-_, _≤_, _<_}
+use Prim.Native.Nat.{_+_, _*_, _-_, _≤_, _<_}
 use native.Mathlib.Omega.{arith}
 use mathlib.Core.Logic.{⊎-elim}
 use lib.ListN.{length}
@@ -16,13 +16,15 @@ use Rattle.commuting.proofs.walk.walk_past.Statement.{statement}
 use Rattle.commuting.proofs.walk.walk_past.Tie as tie
 
 abbrev Inv-loop : tie.InvT-loop
-Inv-loop records work partner past count at₀ open₀ looks₀ ending₀ op₀ at «open» looks ending op = Round records work (partner .0) past count at₀ open₀ looks₀ at «open» looks ending op
+Inv-loop records work partner past count at₀ open₀ looks₀ ending₀ op₀ at «open» looks ending op =
+    Round records work (partner .0) past count at₀ open₀ looks₀ at «open» looks ending op
 
 abbrev μ-loop : tie.MeasureT-loop
 μ-loop records work partner past count at₀ open₀ looks₀ ending₀ op₀ at «open» looks ending op = count - op
 
 abbrev Inv-walk : tie.InvT-walk
-Inv-walk records work partner past count at₀ open₀ looks₀ ending₀ at «open» looks ending = (ending ≡ Ending.Reached) × Leads records work (partner .0) past count at₀ open₀ looks₀ at «open» looks 0
+Inv-walk records work partner past count at₀ open₀ looks₀ ending₀ at «open» looks ending =
+    (ending ≡ Ending.Reached) × Leads records work (partner .0) past count at₀ open₀ looks₀ at «open» looks 0
 
 abbrev μ-walk : tie.MeasureT-walk
 μ-walk records work partner past count at₀ open₀ looks₀ ending₀ at «open» looks ending = 3 * length records - looks
@@ -49,7 +51,12 @@ its : (c : tie.After-starts Inv-loop μ-loop Inv-walk μ-walk) →
     let s = c .before .before .before .before .before .before .before in
     For (s .args .records .now) (s .args .work .now) (s .args .partner .0) (c .before .before .before .before .past-of .result) (c .before .operands .result)
     (s .args .k) (s .args .slot .0) (s .args .pair)
-its c = record { meant = meant (c .before .before .before .before .before .before .before); passing = c .before .before .before .before .past-of .ensures; counted = c .before .operands .ensures }
+its c =
+    record {
+      meant = meant (c .before .before .before .before .before .before .before);
+      passing = c .before .before .before .before .past-of .ensures;
+      counted = c .before .operands .ensures;
+    }
 
 few-operands : (c : tie.After-starts Inv-loop μ-loop Inv-walk μ-walk) → c .before .operands .result ≤ 3
 few-operands c = omega (arith, c .before .operands .ensures, at-most-three (asGate (c .before .before .before .before .before .before .before .args .pair)))
@@ -82,6 +89,13 @@ turn c = omega (arith, c .loop-test .taken, its (c .before .before .before .befo
 below-three : (c : tie.In-loop Inv-loop μ-loop Inv-walk μ-walk) → c .before .loop .op < 3
 below-three c = omega (arith, c .loop-test .taken, few-operands (c .before .before .before .before))
 
+-- At a look there is room to count it, and a track is unfinished.
+room-for-it : (c : tie.Then1 Inv-loop μ-loop Inv-walk μ-walk) → c .before .before .loop .looks + 1 ≤ 3 * c .before .before .before .before .before .before .before .before .before .before .before .before .args .k .gates
+room-for-it c = room-left _ _ _ _ _ _ (its (c .before .before .before .before .before) .meant) _ _ _ _ (at-turn (c .before .before)) (turn (c .before)) (c .if1 .taken)
+
+one-unfinished : (c : tie.Then1 Inv-loop μ-loop Inv-walk μ-walk) → 1 ≤ c .before .before .loop .«open»
+one-unfinished c = one-left _ _ _ _ _ _ (its (c .before .before .before .before .before) .meant) _ _ _ _ (at-turn (c .before .before)) (turn (c .before)) (c .if1 .taken)
+
 -- ------------------------------------------------------------ the needs
 
 past-of-requires : tie.Need-past-of-requires Inv-loop μ-loop Inv-walk μ-walk
@@ -110,13 +124,18 @@ loop-holds c = round-starts _ _ _ _ _ _ _ _ _ (c .before .walk .inv .0)
 
 walk-less : tie.Need-walk-less Inv-loop μ-loop Inv-walk μ-walk
 walk-less c =
-    let more = round-looks _ _ _ _ _ _ _ _ _ _ _ _ _ (c .loop-test .left) (c .before .before .walk-test .taken) (c .before .loop .inv) _ _ _ (its (c .before .before .before .before)) (at-round (c .before .before .before)) in
-    omega (arith, more, at-turn (c .before) .few, meant (c .before .before .before .before .before .before .before .before .before .before .before) .live .loaded .long)
+    let more =
+    round-looks _ _ _ _ _ _ _ _ _ _ _ _ _ (c .loop-test .left) (omega (arith, c .before .before .walk-test .taken)) (c .before .loop .inv) _ _ _
+    (its (c .before .before .before .before)) (at-round (c .before .before .before)) in
+    let list = its (c .before .before .before .before) .meant .live .loaded in
+    omega (arith, more, at-turn (c .before) .few, list .long)
 
 walk-again : tie.Need-walk-again Inv-loop μ-loop Inv-walk μ-walk
 walk-again c = (
   c .before .loop .inv .not-yet,
-  λ k slot pair f w. round-ends _ _ _ _ _ _ _ _ _ _ _ _ _ (c .loop-test .left) (c .before .loop .inv) k slot pair f (c .before .before .before .walk .inv .1 k slot pair f w),
+  λ k slot pair f w.
+      round-ends _ _ _ _ _ _ _ _ _ _ _ _ _ (c .loop-test .left) (c .before .loop .inv) k slot pair f
+      (c .before .before .before .walk .inv .1 k slot pair f w),
 )
 
 mul-node : tie.Need-mul-node Inv-loop μ-loop Inv-walk μ-walk
@@ -126,11 +145,11 @@ array-read-node : tie.Need-array-read-node Inv-loop μ-loop Inv-walk μ-walk
 array-read-node c = below-three c
 
 add-looks : tie.Need-add-looks Inv-loop μ-loop Inv-walk μ-walk
-add-looks c =
-    omega (arith, room-left _ _ _ _ _ _ (meant (c .before .before .before .before .before .before .before .before .before .before .before .before)) _ _ _ _ (at-turn (c .before .before)) (turn (c .before)) (c .if1 .taken), meant (c .before .before .before .before .before .before .before .before .before .before .before .before) .live .loaded .few)
+add-looks c = omega (arith, room-for-it c, its (c .before .before .before .before .before) .meant .live .loaded .few)
 
 look-requires : tie.Need-look-requires Inv-loop μ-loop Inv-walk μ-walk
-look-requires c κs = may-look _ _ _ _ _ _ (meant (c .before .before .before .before .before .before .before .before .before .before .before .before)) _ _ _ _ (at-turn (c .before .before)) (turn (c .before)) (c .if1 .taken)
+look-requires c κs =
+    may-look _ _ _ _ _ _ (its (c .before .before .before .before .before) .meant) _ _ _ _ (at-turn (c .before .before)) (turn (c .before)) (c .if1 .taken)
 
 enum-told : tie.Need-enum-told Inv-loop μ-loop Inv-walk μ-walk
 enum-told c = c .match .keys1
@@ -142,7 +161,7 @@ array-write-at : tie.Need-array-write-at Inv-loop μ-loop Inv-walk μ-walk
 array-write-at c = below-three (c .before .before .before .before)
 
 sub-open : tie.Need-sub-open Inv-loop μ-loop Inv-walk μ-walk
-sub-open c = one-left _ _ _ _ _ _ (meant (c .before .before .before .before .before .before .before .before .before .before .before .before .before .before .before)) _ _ _ _ (at-turn (c .before .before .before .before .before)) (turn (c .before .before .before .before)) (c .before .before .before .if1 .taken)
+sub-open c = omega (arith, one-unfinished (c .before .before .before))
 
 enum-known-seen : tie.Need-enum-known-seen Inv-loop μ-loop Inv-walk μ-walk
 enum-known-seen c = c .match .keys2
@@ -174,15 +193,16 @@ loop-again c =
     (c .if1 .came)
 
 returns : tie.Need-returns Inv-loop μ-loop Inv-walk μ-walk
-returns c = (
-  ap (λ e. endsAs e (c .before .walk .looks)) (c .before .walk .inv .0) ∙ sym (ended _ _ _ _ _ _ (meant (c .before .before .before .before .before .before .before .before .before)) _ _ _ (at-round (c .before)) (omega (arith, c .walk-test .left))),
-  omega (arith, at-round (c .before) .few),
-)
+returns c =
+    let end = ended _ _ _ _ _ _ (its (c .before .before) .meant) _ _ _ (at-round (c .before)) (omega (arith, c .walk-test .left)) in (
+      ap (λ e. endsAs e (c .before .walk .looks)) (c .before .walk .inv .0) ∙ sym end,
+      omega (arith, at-round (c .before) .few),
+    )
 
 returns-2 : tie.Need-returns-2 Inv-loop μ-loop Inv-walk μ-walk
 returns-2 c =
-    round-blocked _ _ _ _ _ _ _ _ (its (c .before .before .before .before .before .before .before .before)) _ _ _ _ (at-turn (c .before .before .before .before .before)) (c .before .before .before .before .loop-test .taken)
-    (c .before .before .before .if1 .taken) _ (c .before .before .look .ensures) (c .enum-told2 .given .1)
+    round-blocked _ _ _ _ _ _ _ _ (its (c .before .before .before .before .before .before .before .before)) _ _ _ _
+    (at-turn (c .before .before .before .before .before)) (c .before .before .before .before .loop-test .taken) (c .before .before .before .if1 .taken) _ (c .before .before .look .ensures) (c .enum-told2 .given .1)
 
 pub walk-past-spec : {M : Type 1} → statement M
 walk-past-spec =
