@@ -1,2 +1,5 @@
 -- The laws of the pass in code.
 pub mod RepeatLaws
+pub mod OutcomeLaws
+pub mod EmptyLaws
+pub mod AgainLaws
