@@ -222,7 +222,7 @@ track-only w (e ∷ l) = go (touches w (e .gate)) refl (track-only w l)
     go true q h = ap₂ (λ (b : Bool) (m : List Gate). cond b (e .gate ∷ m) m) q h
     go false q h = h
 
-off-no-h : (w : ℕ) (g : Gate) → touches w g ≡ false → isHOn w g ≡ false
+pub off-no-h : (w : ℕ) (g : Gate) → touches w g ≡ false → isHOn w g ≡ false
 off-no-h w g q = ap (λ (t : Bool). isH g && t) q ∙ and-none (isH g)
 
 abbrev onlyCut : ℕ → Option (Cut ℕ) → Option (Cut ℕ)

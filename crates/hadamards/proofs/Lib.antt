@@ -1,3 +1,5 @@
 -- The laws of the Hadamard sweep in code.
 pub mod TriedLaws
 pub mod FiringLaws
+pub mod ClosingLaws
+pub mod OpensLaws
