@@ -29,6 +29,10 @@ pub record Held (k : Extent) (bytes₀ words₀ bytes words : List ℕ) : Type 0
 pub held-first : (k : Extent) (bytes words : List ℕ) → Live bytes words k → Held k bytes words bytes words
 held-first k bytes words live = record { live = live; within = within-none 0 (wordsFor k) words; past = refl; long = refl }
 
+pub held-is : (k : Extent) (bytes₀ words₀ bytes words : List ℕ) → Live bytes words k → Within 0 (wordsFor k) words₀ words →
+    drop (16 * k .gates) bytes ≡ drop (16 * k .gates) bytes₀ → length bytes ≡ length bytes₀ → Held k bytes₀ words₀ bytes words
+held-is k bytes₀ words₀ bytes words live within past long = record { live = live; within = within; past = past; long = long }
+
 pub held-then : (k : Extent) (bytes₀ words₀ bytes words bytes′ words′ : List ℕ) → Held k bytes₀ words₀ bytes words →
     Held k bytes words bytes′ words′ → Held k bytes₀ words₀ bytes′ words′
 held-then k bytes₀ words₀ bytes words bytes′ words′ p q =
