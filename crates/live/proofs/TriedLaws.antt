@@ -46,17 +46,17 @@ valid-sound n bits r g e v =
     read = ap gateIn e
 
 -- What loading asks: room for the records and the words, and sound records.
-module _ (list : List ℕ) (wires bits output work : ℕ) where
+module _ (list : List ℕ) (wires bits output work : ℕ) (room : JournalRoom) where
   abbrev sizes : Sizes
   sizes = record { wires = wires; bits = bits; output = output; work = work }
 
   abbrev pub IsAccepted : Type 0
-  IsAccepted = firstFailing (inputTests list sizes JournalRoom.NotAsked) ≡ Tested.Accepted
+  IsAccepted = firstFailing (inputTests list sizes room) ≡ Tested.Accepted
 
   module _ (e : IsAccepted) where
     parts : (firstFailing (sizeTests (length list) sizes) ≡ Tested.Accepted)
-        × (firstFailing (journalTests (length list) JournalRoom.NotAsked ++ listTests wires bits list) ≡ Tested.Accepted)
-    parts = both-accepted (sizeTests (length list) sizes) (journalTests (length list) JournalRoom.NotAsked ++ listTests wires bits list) e
+        × (firstFailing (journalTests (length list) room ++ listTests wires bits list) ≡ Tested.Accepted)
+    parts = both-accepted (sizeTests (length list) sizes) (journalTests (length list) room ++ listTests wires bits list) e
 
     pub accepted-fits : (length list / 16 ≤ 1048576) × (wires ≤ 65536) × (16 * (length list / 16) ≤ output)
         × (wordsFor (extentOf list wires) ≤ work) × (16 * (length list / 16) ≤ length list)
@@ -66,7 +66,7 @@ module _ (list : List ℕ) (wires bits output work : ℕ) where
 
     pub accepted-sound : (i : ℕ) → i < length list / 16 → Sound wires (recordAt list i)
     accepted-sound i m =
-        let passed = both-accepted (journalTests (length list) JournalRoom.NotAsked) (listTests wires bits list) (parts .1) .1 in
+        let passed = both-accepted (journalTests (length list) room) (listTests wires bits list) (parts .1) .1 in
         let valid = accepted-valid wires bits list passed i m in
         valid-sound wires bits (recordAt list i) (valid .0) (valid .1) (valid .2)
 

@@ -3,6 +3,7 @@ use mathlib.Core.Path.{sym, _∙_}
 use mathlib.Core.Logic.{⊎-elim}
 use lib.ListN.{length}
 use borrow.Author.Needs.{needs}
+use Rattle.intake.specs.declared.JournalRoom.{JournalRoom}
 use Rattle.live.specs.Trial.{extentOf}
 use Rattle.live.proofs.TrialLaws.{LoadedTo}
 use Rattle.live.proofs.TriedLaws.{IsAccepted, accepted-fits, accepted-sound, loaded-whole, loaded-named, loaded-again, left-refused, left-accepted}
@@ -27,15 +28,15 @@ enum-told c = search needs
 -- From here on the input is accepted.
 accepted : (c : tie.After-enum-told) →
     let start = c .before .before .before .before .before .before in
-    IsAccepted (start .args .list .now) (start .args .wires) (start .args .bits) (length (start .args .records .now)) (length (start .args .work .now))
+    IsAccepted (start .args .list .now) (start .args .wires) (start .args .bits) (length (start .args .records .now)) (length (start .args .work .now)) JournalRoom.NotAsked
 accepted c = sym (c .before .before .test-input .ensures) ∙ c .enum-told .given .1
 
 load-all-requires : tie.Need-load-all-requires
 load-all-requires c κs =
     let told = c .before .before in
     let start = told .before .before .before .before .before .before in (
-      accepted-fits (start .args .list .now) (start .args .wires) (start .args .bits) _ _ (accepted told),
-      accepted-sound (start .args .list .now) (start .args .wires) (start .args .bits) _ _ (accepted told),
+      accepted-fits (start .args .list .now) (start .args .wires) (start .args .bits) _ _ JournalRoom.NotAsked (accepted told),
+      accepted-sound (start .args .list .now) (start .args .wires) (start .args .bits) _ _ JournalRoom.NotAsked (accepted told),
     )
 
 reload-last-requires : tie.Need-reload-last-requires
@@ -43,8 +44,8 @@ reload-last-requires c κs =
     let loaded = c .before .before .before .before .before .before .before .before in
     let told = loaded .before .before .before in
     let start = told .before .before .before .before .before .before in
-    let fits = accepted-fits (start .args .list .now) (start .args .wires) (start .args .bits) _ _ (accepted told) in
-    let sound = accepted-sound (start .args .list .now) (start .args .wires) (start .args .bits) _ _ (accepted told) in
+    let fits = accepted-fits (start .args .list .now) (start .args .wires) (start .args .bits) _ _ JournalRoom.NotAsked (accepted told) in
+    let sound = accepted-sound (start .args .list .now) (start .args .wires) (start .args .bits) _ _ JournalRoom.NotAsked (accepted told) in
     (loaded .load-all .ensures .0, ((c .before .before .if1 .taken, fits .4, loaded .load-all .ensures .1 .0), sound))
 
 -- The whole list is loaded, whether or not its last gate is taken away and put back.
