@@ -33,7 +33,7 @@ module _ (live : ℕ → Bool) (gates : ℕ → Gate) where
       go true h = (low, h)
       go false h = h
 
-  cells-fit : (i count : ℕ) → length (cellsFrom live gates i count) ≤ count
+  pub cells-fit : (i count : ℕ) → length (cellsFrom live gates i count) ≤ count
   unfolding cellsFrom
   cells-fit i zero = omega arith
   cells-fit i (suc count) = go (live i) (cells-fit (suc i) count)

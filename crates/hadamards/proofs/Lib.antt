@@ -3,3 +3,5 @@ pub mod TriedLaws
 pub mod FiringLaws
 pub mod ClosingLaws
 pub mod OpensLaws
+pub mod FiredLaws
+pub mod WireLaws
