@@ -136,7 +136,7 @@ fn fire_wire(
     steps: usize,
 ) -> usize
     requires { ⌜ Live (now records) (now work) k ⌝ }
-    requires { ⌜ (on .0 < k .wires) × ChainOf (now work) k (on .0) (firings (on .0) 0 (held (now records) (now work) k)) ⌝ }
+    requires { ⌜ (0 < k .gates) × (on .0 < k .wires) × ChainOf (now work) k (on .0) (firings (on .0) 0 (held (now records) (now work) k)) ⌝ }
     requires { ⌜ 16 * (steps + length ((hadamardsFrom (length (held (now records) (now work) k)) (on .0) 0 (held (now records) (now work) k)) .steps)) ≤ length (now journal) ⌝ }
     ensures live { λ _. ⌜ Live (now (records .exit)) (now (work .exit)) k ⌝ }
     ensures did { λ s. ⌜ Did (hadamardsFrom (length (held (now (records .entry)) (now (work .entry)) k)) (on .0) 0 (held (now (records .entry)) (now (work .entry)) k)) (held (now (records .exit)) (now (work .exit)) k) steps s (now (journal .entry)) (now (journal .exit)) ⌝ }
