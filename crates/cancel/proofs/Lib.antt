@@ -3,3 +3,4 @@ pub mod RepeatLaws
 pub mod OutcomeLaws
 pub mod EmptyLaws
 pub mod AgainLaws
+pub mod EntryLaws
