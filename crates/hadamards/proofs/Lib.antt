@@ -5,3 +5,4 @@ pub mod ClosingLaws
 pub mod OpensLaws
 pub mod FiredLaws
 pub mod WireLaws
+pub mod SweptLaws

@@ -28,7 +28,7 @@ use Rattle.hadamards.proofs.FiredLaws.{others-none, others-then, same-c
 
 -- ------------------------------------------------------------ chains
 
-pub chained-same : (next next′ opener opener′ : ℕ → ℕ) (from : ℕ) (fs : List Firing) → ((i : ℕ) → next′ i ≡ next i) →
+chained-same : (next next′ opener opener′ : ℕ → ℕ) (from : ℕ) (fs : List Firing) → ((i : ℕ) → next′ i ≡ next i) →
     ((i : ℕ) → opener′ i ≡ opener i) → Chained next opener from fs → Chained next′ opener′ from fs
 unfolding Chained
 chained-same next next′ opener opener′ from [] p q h = h
@@ -39,17 +39,21 @@ chained-same next next′ opener opener′ from (f ∷ fs) p q h = (
       (chained-same next next′ opener opener′ (next f.closer) fs p q (h .2)),
 )
 
--- Words past the links are as they were where only links have changed.
-pub past-links : (k : Extent) (was now : List ℕ) (x : ℕ) → Within 0 (spareAt k) was now → spareAt k ≤ x → getD now x 0 ≡ getD was x 0
-past-links k was now x p m = p .same x (λ l. omega (arith, l, m))
+-- Only links have changed: words past them are as they were, and so are the chains there.
+module _ (k : Extent) (was now : List ℕ) (p : Within 0 (spareAt k) was now) where
+  past-links : (x : ℕ) → spareAt k ≤ x → getD now x 0 ≡ getD was x 0
+  past-links x m = p .same x (λ l. omega (arith, l, m))
 
--- The chain of a wire is what it was.
-pub chain-stays : (k : Extent) (was now : List ℕ) (w : ℕ) (fs : List Firing) → Within 0 (spareAt k) was now → ChainOf was k w fs → ChainOf now k w fs
-chain-stays k was now w fs p h =
-    chained-same (word was (spareAt k)) (word now (spareAt k)) (word was (openersAt k)) (word now (openersAt k)) (word now (headsAt k) w) fs
-    (λ i. past-links k was now (spareAt k + i) p (omega arith)) (λ i. past-links k was now (openersAt k + i) p (omega arith))
-    (subst (λ (x : ℕ). Chained (word was (spareAt k)) (word was (openersAt k)) x fs)
-    (sym (past-links k was now (headsAt k + w) p (omega arith))) h)
+  rest-stays : (from : ℕ) (fs : List Firing) → Chained (word was (spareAt k)) (word was (openersAt k)) from fs →
+      Chained (word now (spareAt k)) (word now (openersAt k)) from fs
+  rest-stays from fs =
+      chained-same (word was (spareAt k)) (word now (spareAt k)) (word was (openersAt k)) (word now (openersAt k)) from fs
+      (λ i. past-links (spareAt k + i) (omega arith)) (λ i. past-links (openersAt k + i) (omega arith))
+
+  pub chain-stays : (w : ℕ) (fs : List Firing) → ChainOf was k w fs → ChainOf now k w fs
+  chain-stays w fs h =
+      subst (λ (x : ℕ). Chained (word now (spareAt k)) (word now (openersAt k)) x fs) (sym (past-links (headsAt k + w) (omega arith)))
+      (rest-stays (word was (headsAt k) w) fs h)
 
 chain-end : (next opener : ℕ → ℕ) (from : ℕ) (fs : List Firing) → from ≡ 0 → Chained next opener from fs → fs ≡ []
 unfolding Chained
@@ -67,29 +71,25 @@ module _ (b ws : List ℕ) (k : Extent) (w : ℕ) where
       ap (hadamardsFrom (k .gates) w 0) (ap (cells b ws k 0) all)
       ∙ hadamards-enough (k .gates) (length (held b ws k)) w 0 (held b ws k) (cells-fit (isLive ws k) (gateAt b) 0 (k .gates)) (omega arith)
 
-  -- No firing is left: nothing is to come.
-  ahead-none : (from : ℕ) → from ≤ k .gates → firings w from (cells b ws k from (k .gates - from)) ≡ [] →
-      wireAhead b ws k w from ≡ idle (held b ws k)
-  ahead-none from m h =
-      ap (stay (cells b ws k 0 from))
-      (no-firing (isLive ws k) (gateAt b) w from from (k .gates - from) (length (cells b ws k 0 from)) (k .gates) (omega arith) (omega arith) h)
-      ∙ ap idle
-      (let start : 0 + from ≡ from = omega arith in
-      let all : from + (k .gates - from) ≡ k .gates = omega (arith, m) in
-      ap (λ (x : ℕ). cells b ws k 0 from ++ cells b ws k x (k .gates - from)) (sym start)
-      ∙ sym (cells-part (isLive ws k) (gateAt b) 0 from (k .gates - from))
-      ∙ ap (cells b ws k 0) all)
-
-  earlier-length : (i : ℕ) → length (earlier b ws k i) ≡ length (cells b ws k 0 i)
-  earlier-length i = sym (length-reverse (earlier b ws k i)) ∙ ap length (below-reverse (isLive ws k) (gateAt b) i)
-
-  -- The cells before the opener, and how many are before the closer.
+  -- The cells before a slot, parted at another.
   front-is : (from o : ℕ) → from ≤ o → cells b ws k 0 o ≡ cells b ws k 0 from ++ cells b ws k from (o - from)
   front-is from o m =
       let all : o ≡ from + (o - from) = omega (arith, m) in
       let start : 0 + from ≡ from = omega arith in
       ap (cells b ws k 0) all ∙ cells-part (isLive ws k) (gateAt b) 0 from (o - from)
       ∙ ap (λ (x : ℕ). cells b ws k 0 from ++ cells b ws k x (o - from)) start
+
+  -- No firing is left: nothing is to come.
+  ahead-none : (from : ℕ) → from ≤ k .gates → firings w from (cells b ws k from (k .gates - from)) ≡ [] →
+      wireAhead b ws k w from ≡ idle (held b ws k)
+  ahead-none from m h =
+      ap (stay (cells b ws k 0 from))
+      (no-firing (isLive ws k) (gateAt b) w from from (k .gates - from) (length (cells b ws k 0 from)) (k .gates) (omega arith) (omega arith) h)
+      ∙ ap idle (sym (front-is from (k .gates) m))
+
+  -- The positions of opener and closer.
+  earlier-length : (i : ℕ) → length (earlier b ws k i) ≡ length (cells b ws k 0 i)
+  earlier-length i = sym (length-reverse (earlier b ws k i)) ∙ ap length (below-reverse (isLive ws k) (gateAt b) i)
 
   closer-at : (o c : ℕ) → o < c → isLive ws k o ≡ true →
       length (earlier b ws k c) ≡ suc (length (earlier b ws k o)) + length (cells b ws k (suc o) (c - suc o))
@@ -275,9 +275,7 @@ module _ (b₀ ws₀ j₀ : List ℕ) (k : Extent) (w steps : ℕ) (b ws j : Lis
             inside = next-inside;
             left = turn .rest;
             are = ap (firings w end) (sym back-is) ∙ sym (turn .first .rest);
-            chain = chained-same (word ws (spareAt k)) (word ws′ (spareAt k)) (word ws (openersAt k)) (word ws′ (openersAt k)) _ (turn .rest)
-                (λ i. past-links k ws ws′ (spareAt k + i) p (omega arith)) (λ i. past-links k ws ws′ (openersAt k + i) p (omega arith))
-                (turn .chained);
+            chain = rest-stays k ws ws′ p (getD ws (at + (link - 1)) 0) (turn .rest) (turn .chained);
             went = let one-more : suc s ≡ s + 1 = omega arith in
                 subst (λ (m : ℕ). Went (wireAhead b₀ ws₀ k w 0) (wireAhead b′ ws′ k w end) 0 steps m j₀ j′) one-more
                 (went-on (wireAhead b₀ ws₀ k w 0) (wireAhead b ws k w h.from) (wireAhead b′ ws′ k w end) 0 0 steps s (suc s) j₀ j j′ (h .went)
