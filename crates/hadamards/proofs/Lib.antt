@@ -3,6 +3,9 @@ pub mod TriedLaws
 pub mod FiringLaws
 pub mod ClosingLaws
 pub mod OpensLaws
+pub mod PlacingLaws
+pub mod OneWireLaws
+pub mod BetweenLaws
 pub mod FiredLaws
 pub mod WireLaws
 pub mod SweptLaws
