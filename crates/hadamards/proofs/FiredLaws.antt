@@ -1,21 +1,18 @@
 -- A firing carried out: between its two h stands what the step puts there, and nothing else has changed.
 use mathlib.Core.Path.{_≡_, refl, sym, ap, subst, _∙_}
-use mathlib.Core.Bool.{Bool, true, false, cond, _||_, _&&_, false≢true}
+use mathlib.Core.Bool.{Bool, true, cond}
 use mathlib.Core.List.{List, [], _∷_, _++_, append-nil}
 use mathlib.Core.Option.{Option, some, none}
 use Prim.Native.Nat.{ℕ, suc, _+_, _-_, _≤_, _<_}
 use native.Mathlib.Omega.{arith}
-use lib.Dec.{eqb}
-use borrow.Author.Tests.{eqb-true, eqb-false, ne-eqb}
 use Rattle.gates.specs.declared.Wire.{Wire}
 use Rattle.gates.specs.declared.Gate.{Gate}
-use Rattle.gates.specs.declared.Gate.the-variants.{X, H, S, Sdg, Z}
-use Rattle.gates.specs.Gates.{wire, wiresOf, has, touches}
+use Rattle.gates.specs.declared.Gate.the-variants.{H}
+use Rattle.gates.specs.Gates.{wire, wiresOf, touches}
 use Rattle.gates.specs.Records.{recordOf, isH}
 use Rattle.gates.proofs.Joined.{and-left}
-use Rattle.rules.specs.Runs.{Rewrite, rewrite, byEighths, bySum, loneX, sumOf, rewriteOf, isHOn}
-use Rattle.rules.specs.Steps.{Cell, Cut, put, putFirst, track}
-use Rattle.rules.specs.Sweeps.{cut}
+use Rattle.rules.specs.Runs.{Rewrite, isHOn}
+use Rattle.rules.specs.Steps.{Cell, put, putFirst}
 use Rattle.rules.proofs.Between.{is-h, h-wire}
 use Rattle.slots.specs.declared.Extent.{Extent}
 use Rattle.slots.specs.Slots.{gateAt, cellOf, cellsFrom}
@@ -27,7 +24,7 @@ use Rattle.hadamards.specs.declared.closing.Closing.{Closing}
 use Rattle.hadamards.specs.declared.closing.Forms.{Forms}
 use Rattle.hadamards.specs.Closings.{asClose, asRewrite}
 use Rattle.hadamards.specs.Placing.{cells, SameSlot, OneWire, Takes, Placed, OtherWires, Allowed, gap, PlacedBetween, Fired}
-use Rattle.hadamards.proofs.TriedLaws.{closeAt, closeBy, closing-is, and-none}
+use Rattle.hadamards.proofs.OneWireLaws.{rewrite-one-wire, closing-between, same-then, others-then, others-placed}
 
 -- ------------------------------------------------------------ gates of one wire
 
@@ -37,112 +34,16 @@ h-one-wire w g h =
     subst (OneWire w) (sym (is-h g (and-left (isH g) (touches w g) h) ∙ ap (λ (v : ℕ). H (wire v)) (h-wire w g h)))
     (record { wires = refl; words = refl })
 
--- A gate of one wire is on no other.
-off-others : (w v : ℕ) (g : Gate) → OneWire w g → (v ≡ w → ⊥) → touches v g ≡ false
-unfolding has
-off-others w v g o d = ap (has v) (o .wires) ∙ ap (λ (b : Bool). b || false) (ne-eqb v w d)
-
--- What a rewrite puts in place of an h is on the wire, and on no other.
-abbrev Ends : ℕ → Rewrite → Type 0
-Ends w r = (g : Gate) → r .ends ≡ some g → OneWire w g
-
-no-ends : (w : ℕ) (f : Option Gate) → Ends w (record { ends = none; first = f })
-no-ends w f g e = absurd (let z : _≡_ {A = ℕ} 0 1 = cc in omega arith)
-
-as-ends : (w : ℕ) (h : Gate) (f : Option Gate) → OneWire w h → Ends w (record { ends = some h; first = f })
-as-ends w h f o g e = let same : h ≡ g = cc in subst (OneWire w) same o
-
-ends-of : (w : ℕ) (r s : Rewrite) → some r ≡ some s → Ends w r → Ends w s
-ends-of w r s e h = let same : r ≡ s = cc in subst (Ends w) same h
-
-eighths-ends : (w n : ℕ) (r : Rewrite) → byEighths (wire w) n ≡ some r → Ends w r
-unfolding byEighths wiresOf recordOf
-eighths-ends w n r = go (eqb n 0) (eqb n 4) (eqb n 2) (eqb n 6)
-  where
-    go : (a b c d : Bool) → cond a (rewrite none none) (cond b (rewrite none (some (X (wire w))))
-        (cond c (rewrite (some (Sdg (wire w))) (some (H (wire w)))) (cond d (rewrite (some (S (wire w))) (some (H (wire w)))) none)))
-        ≡ some r → Ends w r
-    go true b c d e = ends-of w _ r e (no-ends w none)
-    go false true c d e = ends-of w _ r e (no-ends w (some (X (wire w))))
-    go false false true d e = ends-of w _ r e (as-ends w (Sdg (wire w)) (some (H (wire w))) (record { wires = refl; words = refl }))
-    go false false false true e = ends-of w _ r e (as-ends w (S (wire w)) (some (H (wire w))) (record { wires = refl; words = refl }))
-    go false false false false e = absurd (let z : _≡_ {A = ℕ} 0 1 = cc in omega arith)
-
-rewrite-ends : (w : ℕ) (t : List Gate) (r : Rewrite) → rewriteOf (wire w) t ≡ some r → Ends w r
-unfolding rewriteOf
-rewrite-ends w t r = go (loneX t) (sumOf t)
-  where
-    go : (b : Bool) (s : Option ℕ) → cond b (rewrite none (some (Z (wire w)))) (bySum (wire w) s) ≡ some r → Ends w r
-    go true s e = ends-of w _ r e (no-ends w (some (Z (wire w))))
-    go false none e = absurd (let z : _≡_ {A = ℕ} 0 1 = cc in omega arith)
-    go false (some n) e = eighths-ends w _ r e
-
-pub closing-ends : (w : ℕ) (l : List (Cell ℕ)) (c : Close) → closingOf w l ≡ some c → (g : Gate) → c .rewrite .ends ≡ some g → OneWire w g
-closing-ends w l c e = go (cut (isHOn w) l) (sym (closing-is w l) ∙ e)
-  where
-    by : (d : Cut ℕ) (o : Option Rewrite) → rewriteOf (wire w) (track w d.before) ≡ o → closeBy d o ≡ some c → Ends w (c .rewrite)
-    by d none q h = absurd (let z : _≡_ {A = ℕ} 0 1 = cc in omega arith)
-    by d (some r) q h =
-        let same : record { closer = d .here .beside; rewrite = r } ≡ c = cc in
-        rewrite-ends w (track w d.before) (c .rewrite) (q ∙ ap (λ (x : Close). some (x .rewrite)) same)
-
-    go : (o : Option (Cut ℕ)) → closeAt w o ≡ some c → Ends w (c .rewrite)
-    go none h = absurd (let z : _≡_ {A = ℕ} 0 1 = cc in omega arith)
-    go (some d) h = by d (rewriteOf (wire w) (track w d.before)) refl h
-
--- ------------------------------------------------------------ other wires
-
-pub others-none : (k : Extent) (w : ℕ) (bytes words : List ℕ) → OtherWires k w bytes words bytes words
-others-none k w bytes words = record { live = λ v j d. refl; gate = λ v j d t. refl }
-
-pub others-then : (k : Extent) (w : ℕ) (a aw b bw c cw : List ℕ) → OtherWires k w a aw b bw → OtherWires k w b bw c cw → OtherWires k w a aw c cw
-others-then k w a aw b bw c cw p q =
-    record {
-      live = λ v j d. p .live v j d ∙ q .live v j d;
-      gate = λ v j d t. p .gate v j d t ∙ q .gate v j d (sym (p .live v j d) ∙ t);
-    }
-
-module _ (k : Extent) (w slot : ℕ) (o : Option Gate) (b ws b′ ws′ : List ℕ) (p : Placed k slot o b ws b′ ws′)
-    (was : OneWire w (gateAt b slot)) (takes : (g : Gate) → o ≡ some g → OneWire w g) where
-  before-off : (v : ℕ) → (v ≡ w → ⊥) → (isLive ws k slot && touches v (gateAt b slot)) ≡ false
-  before-off v d = ap (λ (t : Bool). isLive ws k slot && t) (off-others w v (gateAt b slot) was d) ∙ and-none (isLive ws k slot)
-
-  after-off : (v : ℕ) → (v ≡ w → ⊥) → (isLive ws′ k slot && touches v (gateAt b′ slot)) ≡ false
-  after-off v d = go o (p .here) takes
-    where
-      go : (o : Option Gate) → Takes k slot o b′ ws′ → ((g : Gate) → o ≡ some g → OneWire w g) →
-          (isLive ws′ k slot && touches v (gateAt b′ slot)) ≡ false
-      go none h t = ap (λ (c : Bool). c && touches v (gateAt b′ slot)) h
-      go (some g) h t =
-          ap (λ (c : Bool). isLive ws′ k slot && c) (ap (touches v) (h .1) ∙ off-others w v g (t g refl) d) ∙ and-none (isLive ws′ k slot)
-
-  pub placed-others : OtherWires k w b ws b′ ws′
-  placed-others =
-      record {
-        live = λ v j d. alive v j d (eqb j slot) refl;
-        gate = λ v j d t. same v j d t (eqb j slot) refl;
-      }
-    where
-      alive : (v j : ℕ) → (v ≡ w → ⊥) → (c : Bool) → eqb j slot ≡ c →
-          (isLive ws k j && touches v (gateAt b j)) ≡ (isLive ws′ k j && touches v (gateAt b′ j))
-      alive v j d true q =
-          subst (λ (i : ℕ). (isLive ws k i && touches v (gateAt b i)) ≡ (isLive ws′ k i && touches v (gateAt b′ i)))
-          (sym (eqb-true j slot q)) (before-off v d ∙ sym (after-off v d))
-      alive v j d false q =
-          let s = p .other j (eqb-false j slot q) in
-          sym (λ x. s .live x && touches v (s .gate x))
-
-      same : (v j : ℕ) → (v ≡ w → ⊥) → (isLive ws k j && touches v (gateAt b j)) ≡ true → (c : Bool) → eqb j slot ≡ c →
-          gateAt b j ≡ gateAt b′ j
-      same v j d t true q =
-          absurd (false≢true (sym (before-off v d)
-          ∙ subst (λ (i : ℕ). (isLive ws k i && touches v (gateAt b i)) ≡ true) (eqb-true j slot q) t))
-      same v j d t false q = sym (p .other j (eqb-false j slot q) .gate)
+-- What a firing puts in place of its two h.
+pub closing-ends : (bytes words : List ℕ) (k : Extent) (w opener closer : ℕ) (r : Rewrite) →
+    closingOf w (later bytes words k opener) ≡ some (record { closer = closer; rewrite = r }) → (g : Gate) → r .ends ≡ some g → OneWire w g
+closing-ends bytes words k w opener closer r e =
+    rewrite-one-wire w _ r (closing-between (isLive words k) (gateAt bytes) w (suc opener) (k .gates - suc opener) closer r e) .1
 
 -- ------------------------------------------------------------ slots that are as they were
 
-pub same-then : (k : Extent) (a aw b bw c cw : List ℕ) (j : ℕ) → SameSlot k a aw b bw j → SameSlot k b bw c cw j → SameSlot k a aw c cw j
-same-then k a aw b bw c cw j p q = record { live = q .live ∙ p .live; gate = q .gate ∙ p .gate }
+pub others-none : (k : Extent) (w : ℕ) (bytes words : List ℕ) → OtherWires k w bytes words bytes words
+others-none k w bytes words = record { live = λ v j d. refl; gate = λ v j d t. refl }
 
 -- Slots that are all as they were have the cells that they had.
 pub same-cells : (k : Extent) (a aw b bw : List ℕ) (i count : ℕ) → ((j : ℕ) → i ≤ j → j < i + count → SameSlot k a aw b bw j) →
@@ -260,8 +161,8 @@ module _ (k : Extent) (w : ℕ) (f : Firing) (r : Rewrite) (a aw b bw c cw d dw 
         back = λ j m. outside-stays j (λ n. m) (λ e. omega (arith, e, m, may .apart));
         others = others-then k w a aw c cw d dw
             (others-then k w a aw b bw c cw (mid .others)
-            (placed-others k w at r.ends b bw c cw first (opener-ready k w f a aw b bw r.first may mid .1) ends))
-            (placed-others k w to r.ends c cw d dw last (closer-ready k w f a aw b bw r.first may mid r.ends c cw first .1) ends);
+            (others-placed k w at r.ends b bw c cw first (opener-ready k w f a aw b bw r.first may mid .1) ends))
+            (others-placed k w to r.ends c cw d dw last (closer-ready k w f a aw b bw r.first may mid r.ends c cw first .1) ends);
       }
 
 -- The gates between, the first h and the second, each with what the code found to put there: the firing is carried out.
@@ -270,7 +171,7 @@ pub fired-all : (k : Extent) (w : ℕ) (f : Firing) (r : Rewrite) (x e : Option 
     closingOf w (later a aw k f.opener) ≡ some (record { closer = f .closer; rewrite = r }) →
     PlacedBetween k w f x a aw b bw → Placed k f.opener e b bw c cw → Placed k f.closer e c cw d dw → Fired k w f r a aw d dw
 fired-all k w f r x e a aw b bw c cw d dw p q may closes mid first last =
-    done k w f r a aw b bw c cw d dw may (closing-ends w (later a aw k f.opener) (record { closer = f .closer; rewrite = r }) closes)
+    done k w f r a aw b bw c cw d dw may (closing-ends a aw k w f.opener f.closer r closes)
     (subst (λ (o : Option Gate). PlacedBetween k w f o a aw b bw) p mid)
     (subst (λ (o : Option Gate). Placed k f.opener o b bw c cw) q first)
     (subst (λ (o : Option Gate). Placed k f.closer o c cw d dw) q last)

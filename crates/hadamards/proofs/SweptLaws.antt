@@ -20,7 +20,7 @@ use Rattle.hadamards.specs.Firings.{firings}
 use Rattle.hadamards.specs.Chains.{notesFor, ChainOf, Noted}
 use Rattle.hadamards.specs.Placing.{OtherWires}
 use Rattle.hadamards.proofs.FiringLaws.{firings-kept}
-use Rattle.hadamards.proofs.WireLaws.{chain-stays}
+use Rattle.hadamards.proofs.WireLaws.{chain-kept}
 
 -- The sweep over no wire, and over one more.
 sweep-none : (l : List (Cell ℕ)) → hadamardSweep 0 l ≡ idle l
@@ -108,7 +108,7 @@ module _ (b₀ ws₀ j₀ : List ℕ) (k : Extent) (steps : ℕ) (b ws j : List 
             (sweep-next w (held b₀ ws₀ k) (held b ws k) (h .did .list) ∙ ap (λ (n : ℕ). hadamardSweep n (held b₀ ws₀ k)) one-more)
             (did-both _ _ (held b ws k) (held b′ ws′ k) steps s s′ j₀ j j′ (h .did) d);
         noted = λ v x y. subst (ChainOf ws′ k v) (firings-stay k w v b ws b′ ws′ o (λ e. omega (arith, e, x)))
-            (chain-stays k ws ws′ p v (firings v 0 (held b ws k)) (h .noted v (omega (arith, x)) y));
+            (chain-kept k ws ws′ p v (firings v 0 (held b ws k)) (h .noted v (omega (arith, x)) y));
         within = within-then 0 (spareAt k) ws₀ ws ws′ (h .within) p;
         long = n ∙ h .long;
         past = q ∙ h .past;

@@ -24,7 +24,8 @@ use Rattle.hadamards.specs.Firings.{Firing, closingOf, firings}
 use Rattle.hadamards.specs.Chains.{openersAt, headsAt, Chained, ChainOf}
 use Rattle.hadamards.specs.Placing.{cells, OtherWires, Allowed, inPlace, Fired, wireAhead}
 use Rattle.hadamards.proofs.FiringLaws.{after, First, first-firing, no-firing, cells-fit}
-use Rattle.hadamards.proofs.FiredLaws.{others-none, others-then, same-cells}
+use Rattle.hadamards.proofs.OneWireLaws.{others-then}
+use Rattle.hadamards.proofs.FiredLaws.{others-none, same-cells}
 
 -- ------------------------------------------------------------ chains
 
@@ -44,16 +45,16 @@ module _ (k : Extent) (was now : List ℕ) (p : Within 0 (spareAt k) was now) wh
   past-links : (x : ℕ) → spareAt k ≤ x → getD now x 0 ≡ getD was x 0
   past-links x m = p .same x (λ l. omega (arith, l, m))
 
-  rest-stays : (from : ℕ) (fs : List Firing) → Chained (word was (spareAt k)) (word was (openersAt k)) from fs →
+  rest-kept : (from : ℕ) (fs : List Firing) → Chained (word was (spareAt k)) (word was (openersAt k)) from fs →
       Chained (word now (spareAt k)) (word now (openersAt k)) from fs
-  rest-stays from fs =
+  rest-kept from fs =
       chained-same (word was (spareAt k)) (word now (spareAt k)) (word was (openersAt k)) (word now (openersAt k)) from fs
       (λ i. past-links (spareAt k + i) (omega arith)) (λ i. past-links (openersAt k + i) (omega arith))
 
-  pub chain-stays : (w : ℕ) (fs : List Firing) → ChainOf was k w fs → ChainOf now k w fs
-  chain-stays w fs h =
+  pub chain-kept : (w : ℕ) (fs : List Firing) → ChainOf was k w fs → ChainOf now k w fs
+  chain-kept w fs h =
       subst (λ (x : ℕ). Chained (word now (spareAt k)) (word now (openersAt k)) x fs) (sym (past-links (headsAt k + w) (omega arith)))
-      (rest-stays (word was (headsAt k) w) fs h)
+      (rest-kept (word was (headsAt k) w) fs h)
 
 chain-end : (next opener : ℕ → ℕ) (from : ℕ) (fs : List Firing) → from ≡ 0 → Chained next opener from fs → fs ≡ []
 unfolding Chained
@@ -275,7 +276,7 @@ module _ (b₀ ws₀ j₀ : List ℕ) (k : Extent) (w steps : ℕ) (b ws j : Lis
             inside = next-inside;
             left = turn .rest;
             are = ap (firings w end) (sym back-is) ∙ sym (turn .first .rest);
-            chain = rest-stays k ws ws′ p (getD ws (at + (link - 1)) 0) (turn .rest) (turn .chained);
+            chain = rest-kept k ws ws′ p (getD ws (at + (link - 1)) 0) (turn .rest) (turn .chained);
             went = let one-more : suc s ≡ s + 1 = omega arith in
                 subst (λ (m : ℕ). Went (wireAhead b₀ ws₀ k w 0) (wireAhead b′ ws′ k w end) 0 steps m j₀ j′) one-more
                 (went-on (wireAhead b₀ ws₀ k w 0) (wireAhead b ws k w h.from) (wireAhead b′ ws′ k w end) 0 0 steps s (suc s) j₀ j j′ (h .went)

@@ -53,7 +53,7 @@ place-requires c κs =
       mid .place-between .ensures .0,
       (
         opener-ready _ _ _ _ _ _ _ _ may (mid .place-between .ensures .1 .0),
-        λ g e. closing-ends _ _ _ (may .closes) g
+        λ g e. closing-ends _ _ _ _ _ _ _ (may .closes) g
             (sym (ap (λ (x : Rewrite). x .ends) (forms-are _ (opened .opens .result) (forms .forms-of .result) _ _ (opened .opens .ensures) (forms .forms-of .ensures) (may .closes))) ∙ e),
       ),
     )
@@ -69,7 +69,7 @@ place-requires-2 c κs =
       first .place .ensures .0,
       (
         closer-ready _ _ _ _ _ _ _ _ may (mid .place-between .ensures .1 .0) _ _ _ (first .place .ensures .1 .0),
-        λ g e. closing-ends _ _ _ (may .closes) g
+        λ g e. closing-ends _ _ _ _ _ _ _ (may .closes) g
             (sym (ap (λ (x : Rewrite). x .ends) (forms-are _ (opened .opens .result) (forms .forms-of .result) _ _ (opened .opens .ensures) (forms .forms-of .ensures) (may .closes))) ∙ e),
       ),
     )
