@@ -9,3 +9,6 @@ pub mod BetweenLaws
 pub mod FiredLaws
 pub mod WireLaws
 pub mod SweptLaws
+pub mod ChainLaws
+pub mod NotedLaws
+pub mod ScanLaws
