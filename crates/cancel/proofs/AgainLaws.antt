@@ -16,8 +16,8 @@ use Rattle.slots.specs.declared.Extent.{Extent}
 use Rattle.slots.specs.Live.{wordsFor, held, Live}
 use Rattle.journal.specs.Sweeping.{Did, Went}
 use Rattle.journal.proofs.SweepingLaws.{went-none, went-on, went-did, went-looks}
-use Rattle.journal.proofs.WentLaws.{went-fits, went-long}
-use Rattle.cancel.proofs.RepeatLaws.{Among, among, last-went, again-went, again-lower}
+use Rattle.journal.proofs.WentLaws.{went-fits}
+use Rattle.cancel.proofs.RepeatLaws.{among, last-went, again-went, again-lower}
 
 -- Records and words that hold a list, changed within their room.
 pub record Held (k : Extent) (bytes₀ words₀ bytes words : List ℕ) : Type 0 where
@@ -48,6 +48,11 @@ module _ (f : Sweep ℕ) (replays : Replays seven f) (k : Extent) (bytes₀ word
   pub record SoFar (bytes words journal : List ℕ) (s looks : ℕ) : Type 0 where
     pub kept : Held k bytes₀ words₀ bytes words
     pub went : Went (repeated f (held bytes₀ words₀ k)) (repeated f (held bytes words k)) looks steps s journal₀ journal
+
+  -- Whatever the looks.
+  pub record Somehow (bytes words journal : List ℕ) (s : ℕ) : Type 0 where
+    pub looks : ℕ
+    pub so-far : SoFar bytes words journal s looks
 
   pub so-far-none : Live bytes₀ words₀ k → SoFar bytes₀ words₀ journal₀ steps 0
   so-far-none live = record { kept = held-first k bytes₀ words₀ live; went = went-none _ _ steps journal₀ refl }

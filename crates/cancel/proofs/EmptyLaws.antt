@@ -1,12 +1,15 @@
--- The pass on no gates does nothing.
-use mathlib.Core.Path.{_≡_, refl, ap, _∙_}
+-- Rounds on no gates do nothing.
+use mathlib.Core.Path.{_≡_, refl, sym, ap, _∙_}
 use mathlib.Core.List.{List, []}
 use Prim.Native.Nat.{ℕ, zero, suc}
 use lib.ListN.{length}
 use Rattle.rules.specs.Equal.{seven}
 use Rattle.rules.specs.Steps.{Cell}
 use Rattle.rules.specs.Sweeps.{Done, Sweep, idle, and, followed, pairsFrom, pairSweep, hadamardsFrom, hadamardSweep, commutingFrom, commutingSweep}
-use Rattle.rules.specs.Loop.{againIf, repeat, repeated, size, round, pass}
+use Rattle.rules.specs.Loop.{againIf, repeat, repeated, size, round}
+use Rattle.slots.specs.declared.Extent.{Extent}
+use Rattle.slots.specs.Slots.{gateAt, cellsFrom}
+use Rattle.slots.specs.Live.{isLive, held}
 
 abbrev no-cells : List (Cell ℕ)
 no-cells = []
@@ -42,8 +45,13 @@ round-nothing n =
     ∙ ap (λ d. and nothing (and d (pairSweep seven (d .list)))) (repeated-nothing commutingSweep commuting-nothing)
     ∙ ap (λ d. and nothing (and nothing d)) pairs-nothing
 
-pub pass-nothing : (n : ℕ) → pass seven n [] ≡ nothing
-unfolding pass
-pass-nothing n =
-    ap (λ d. and d (repeated (round seven n) (d .list))) pairs-nothing
-    ∙ ap (and nothing) (repeated-nothing (round seven n) (round-nothing n))
+-- No gates, so no cells.
+held-nothing : (bytes words : List ℕ) (k : Extent) → k .gates ≡ 0 → held bytes words k ≡ no-cells
+unfolding cellsFrom
+held-nothing bytes words k p = ap (cellsFrom (isLive words k) (gateAt bytes) 0) p
+
+pub rounds-nothing : (bytes words : List ℕ) (k : Extent) → k .gates ≡ 0 → repeated (round seven (k .wires)) (held bytes words k) ≡ idle (held bytes words k)
+rounds-nothing bytes words k p =
+    ap (repeated (round seven (k .wires))) (held-nothing bytes words k p)
+    ∙ repeated-nothing (round seven (k .wires)) (round-nothing (k .wires))
+    ∙ ap idle (sym (held-nothing bytes words k p))

@@ -1,37 +1,37 @@
 -- The entry from end to end: room for every step, and what an accepted call leaves and answers.
 use mathlib.Core.Path.{_≡_, refl, sym, ap, ap₂, _∙_}
 use mathlib.Core.Bool.{Bool, true, false, cond}
-use mathlib.Core.List.{List, [], _∷_, _++_, append-assoc}
+use mathlib.Core.List.{List, [], _∷_, _++_}
 use Prim.Native.Nat.{ℕ, suc, _+_, _*_, _-_, _/_, _^_, _≤_, _<_}
 use native.Mathlib.Omega.{arith}
-use lib.Dec.{ltb}
 use lib.ListN.{length, take, drop, replicate, length-append}
-use lib.Seq.{sets, sets-eq, take-at, drop-at, drop-drop, drop-append-le}
+use lib.Seq.{sets, sets-eq, take-at, drop-at, drop-drop}
 use borrow.Author.Tests.{ltb-false}
 use Rattle.gates.specs.declared.Position.{Position}
 use Rattle.gates.specs.Records.{isH}
 use Rattle.rules.specs.Equal.{seven}
 use Rattle.rules.specs.Steps.{Cell, Step, gatesOf}
 use Rattle.rules.specs.Journal.{journalBytes}
-use Rattle.rules.specs.Sweeps.{Done, idle, and, pairSweep}
+use Rattle.rules.specs.Sweeps.{Done, and, pairSweep}
 use Rattle.rules.specs.Loop.{hCount, repeated, round, pass}
 use Rattle.rules.proofs.JournalBytes.{journal-length}
 use Rattle.rules.proofs.Falls.{steps-bound}
-use Rattle.rules.proofs.Looks.{walked-bound}
+use Rattle.rules.proofs.Looks.{pair-none, walked-bound}
 use Rattle.intake.specs.declared.JournalRoom.{JournalRoom}
 use Rattle.intake.specs.declared.Sizes.{Sizes}
 use Rattle.intake.specs.declared.Tested.{Tested}
-use Rattle.intake.specs.Tests.{firstFailing, sizeTests, journalTests, listTests}
+use Rattle.intake.specs.Tests.{sizeTests, journalTests, listTests}
 use Rattle.intake.proofs.TestLaws.{first-passes, both-accepted}
 use Rattle.links.specs.Words.{Within}
 use Rattle.slots.specs.declared.Extent.{Extent}
-use Rattle.slots.specs.Slots.{gateAt, cellsFrom}
+use Rattle.slots.specs.Slots.{gateAt}
 use Rattle.slots.specs.Live.{wordsFor, held}
 use Rattle.live.specs.Filling.{wholeList}
 use Rattle.live.specs.Finished.{listBytes, zeroed, recordsLeft, wordsLeft}
 use Rattle.live.specs.Trial.{extentOf}
 use Rattle.live.proofs.FinishLaws.{past-same}
 use Rattle.journal.specs.Sweeping.{Did}
+use Rattle.journal.proofs.SweepingLaws.{did-both}
 use Rattle.commuting.proofs.AheadLaws.{few-cells}
 use Rattle.cancel.specs.declared.entry.Cancelled.{Cancelled}
 use Rattle.cancel.specs.Cancelling.{testsOf, passed, cancelledAs, outAfter, workAfter, journalAfter}
@@ -101,6 +101,29 @@ module _ (wires : ℕ) (list : List ℕ) where
           let small : length whole ≤ 1048576 = let f = few in omega (arith, f, h) in
           omega (arith, walked-bound seven wires whole small, parted-looks, e)
 
+-- The list by another name.
+pub did-named : (d : Done ℕ) (held held′ : List (Cell ℕ)) (m n : ℕ) (was now : List ℕ) → Did d held m n was now → held′ ≡ held →
+    Did d held′ m n was now
+did-named d held held′ m n was now did e = record { list = e ∙ did .list; count = did .count; journal = did .journal }
+
+module _ (wires : ℕ) (list : List ℕ) (first after : List (Cell ℕ)) (m n : ℕ) (was now then : List ℕ)
+    (did : Did (pairSweep seven (whole wires list)) first 0 m was now) where
+  -- The first sweep, and then the rounds, are the pass.
+  pub pass-did : Did (repeated (round seven wires) first) after m n now then → Did (passed wires list) after 0 n was then
+  pass-did rounds =
+      rw (pass-is wires (whole wires list))
+      (did-both _ _ first after 0 m n was now then did (rw (sym (ap (repeated (round seven wires)) (did .list))) rounds))
+
+  pub pass-looked : (repeated (round seven wires) first) .looks ≡ (passed wires list) .looks
+  pass-looked =
+      let e : (repeated (round seven wires) first) .looks ≡ (rest wires list) .looks = ap (λ l. (repeated (round seven wires) l) .looks) (did .list) in
+      let none-yet : (pairSweep seven (whole wires list)) .looks ≡ 0 = pair-none seven (whole wires list) in
+      omega (arith, e, none-yet, parted-looks wires list)
+
+pub steps-fit : (wires : ℕ) (list : List ℕ) (held : List (Cell ℕ)) (s : ℕ) (was now : List ℕ) → Did (passed wires list) held 0 s was now →
+    16 * s ≤ 24 * (length list / 16)
+steps-fit wires list held s was now did = omega (arith, all-steps wires list, did .count)
+
 -- ------------------------------------------------------------ an accepted input
 
 -- 6 has passed: "journal room under 24g bytes".
@@ -168,7 +191,7 @@ module _ (wires : ℕ) (list out work journal : List ℕ) (tested : Tested) (acc
           (
             zeros ∙ ap (λ (rest : List ℕ). replicate (wordsFor k) 0 ++ rest) (past-same 0 (wordsFor k) work words within),
             ended
-            ∙ journal-left ((passed wires list) .steps) s (24 * (length list / 16)) journal written (did .count) (did .journal) (all-steps wires list) fits,
+                ∙ journal-left ((passed wires list) .steps) s (24 * (length list / 16)) journal written (did .count) (did .journal) (all-steps wires list) fits,
           ),
         ),
       )

@@ -4,3 +4,4 @@ pub mod OutcomeLaws
 pub mod EmptyLaws
 pub mod AgainLaws
 pub mod EntryLaws
+pub mod RoundLaws

@@ -8,7 +8,7 @@ use lib.Seq.{sets}
 use Rattle.rules.specs.Equal.{seven}
 use Rattle.rules.specs.Steps.{Cell, Step}
 use Rattle.rules.specs.Journal.{journalBytes}
-use Rattle.rules.specs.Sweeps.{Done, Sweep, idle, and}
+use Rattle.rules.specs.Sweeps.{Sweep, idle, and}
 use Rattle.rules.specs.Loop.{againIf, repeat, repeated, size}
 use Rattle.rules.proofs.Replays.{Replays}
 use Rattle.rules.proofs.Falls.{steps-lower}
@@ -108,7 +108,7 @@ module _ (f : Sweep ℕ) (replays : Replays seven f) where
       pub again-went : Went (repeated f l) (repeated f held) ((f l) .looks) before after was now
       again-went = fired _ λ x s e.
           let q : repeated f l ≡ and (f l) (repeated f held) =
-              repeated-goes l x s e ∙ ap (λ m. and (f l) (repeated f m)) (sym (did .list)) in
+          repeated-goes l x s e ∙ ap (λ m. and (f l) (repeated f m)) (sym (did .list)) in
           record {
             steps = (f l) .steps;
             list = ap (λ d. d .list) q;

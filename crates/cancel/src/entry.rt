@@ -3,7 +3,6 @@ ghost use mathlib.Core.Path.{_≡_};
 ghost use lib.ListN.{length};
 ghost use Rattle.cancel.specs.Cancelling.{testsOf, cancelledAs, outAfter, workAfter, journalAfter};
 use crate::rounds;
-use commuting::sweep::Swept;
 use gates::Position;
 use intake::JournalRoom;
 use intake::Sizes;
@@ -15,8 +14,15 @@ use slots::Extent;
 
 // What a call comes back with: document 01's m, s and walked; or the number and the place of a refusal.
 pub enum Cancelled {
-    Done { left: usize, steps: usize, walked: u64 },
-    Refused { number: u32, place: Position },
+    Done {
+        left: usize,
+        steps: usize,
+        walked: u64,
+    },
+    Refused {
+        number: u32,
+        place: Position,
+    },
 }
 
 // The pass on a list of records. What is left goes to the front of `out`, its steps into `journal`.
@@ -49,13 +55,7 @@ pub fn cancel(
     };
     let loaded = first::load_pairs(out, work, journal, k, list);
     load::link(out, work, k);
-    let mut swept = Swept {
-        steps: loaded,
-        looks: 0,
-    };
-    if 0 < k.gates {
-        swept = rounds::repeat_rounds(out, work, journal, k, loaded);
-    }
+    let swept = rounds::all_rounds(out, work, journal, k, loaded);
     let left = finish::finish(out, work, k);
     let written = 16 * swept.steps;
     finish::clear_bytes(journal, written, 24 * k.gates - written);

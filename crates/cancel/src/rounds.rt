@@ -94,7 +94,7 @@ fn one_round(
 }
 
 // Rounds until one in which nothing fires.
-pub fn repeat_rounds(
+fn repeat_rounds(
     records: &mut [u8],
     work: &mut [u32],
     journal: &mut [u8],
@@ -120,4 +120,27 @@ pub fn repeat_rounds(
         }
         s = swept.steps;
     }
+}
+
+// The rounds of the pass. A list of no gates has none, and its words leave no room for a scan's notes.
+pub fn all_rounds(
+    records: &mut [u8],
+    work: &mut [u32],
+    journal: &mut [u8],
+    k: Extent,
+    steps: usize,
+) -> Swept
+    requires { ⌜ Live (now records) (now work) k ⌝ }
+    requires { ⌜ 16 * (steps + length ((repeated (round seven (k .wires)) (held (now records) (now work) k)) .steps)) ≤ length (now journal) ⌝ }
+    requires { ⌜ (repeated (round seven (k .wires)) (held (now records) (now work) k)) .looks < 2 ^ 64 ⌝ }
+    ensures live { λ _. ⌜ Live (now (records .exit)) (now (work .exit)) k ⌝ }
+    ensures did { λ r. ⌜ Did (repeated (round seven (k .wires)) (held (now (records .entry)) (now (work .entry)) k)) (held (now (records .exit)) (now (work .exit)) k) steps (r .steps) (now (journal .entry)) (now (journal .exit)) ⌝ }
+    ensures looked { λ r. ⌜ r .looks ≡ (repeated (round seven (k .wires)) (held (now (records .entry)) (now (work .entry)) k)) .looks ⌝ }
+    ensures within { λ _. ⌜ Within 0 (wordsFor k) (now (work .entry)) (now (work .exit)) ⌝ }
+    ensures past { λ _. ⌜ drop (16 * k .gates) (now (records .exit)) ≡ drop (16 * k .gates) (now (records .entry)) ⌝ }
+{
+    if k.gates == 0 {
+        return Swept { steps, looks: 0 };
+    }
+    repeat_rounds(records, work, journal, k, steps)
 }

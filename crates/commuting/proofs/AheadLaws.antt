@@ -1,8 +1,8 @@
 -- The commuting sweep at a slot: what is still to come from there and from the next slot on.
-use mathlib.Core.Path.{_≡_, refl, sym, ap, ap₂, subst, _∙_}
+use mathlib.Core.Path.{_≡_, refl, sym, ap, ap₂, _∙_}
 use mathlib.Core.Bool.{Bool, true, false, not, cond, _&&_}
 use mathlib.Core.List.{List, [], _∷_, _++_, append-assoc, append-nil}
-use mathlib.Core.Option.{Option, some, none}
+use mathlib.Core.Option.{some, none}
 use Prim.Native.Nat.{ℕ, zero, suc, _+_, _-_, _≤_, _<_}
 use native.Mathlib.Omega.{arith}
 use lib.Dec.{eqb}
@@ -10,8 +10,8 @@ use lib.ListN.{length, length-append}
 use borrow.Author.Tests.{ne-eqb, eq-eqb}
 use Rattle.gates.specs.declared.Gate.{Gate}
 use Rattle.rules.specs.Equal.{equal, isPair}
-use Rattle.rules.specs.Steps.{Cell, Cut, step, when}
-use Rattle.rules.specs.Sweeps.{Done, Walk, reached, blocked, stay, fire, look, cut, without, walkPast, commutingFrom}
+use Rattle.rules.specs.Steps.{Cell, Cut, when}
+use Rattle.rules.specs.Sweeps.{Done, reached, blocked, stay, fire, look, cut, without, walkPast, commutingFrom}
 use Rattle.slots.specs.Slots.{cellOf, cellsFrom}
 use Rattle.slots.proofs.HeldLaws.{cells-same}
 use Rattle.slots.proofs.CutLaws.{cells-part, CutFrom, cut-from-parts}
@@ -175,6 +175,6 @@ module _ (live : ℕ → Bool) (gates : ℕ → Gate) (g s : ℕ) (inside : s < 
                 let p : t ≡ (s + 1) + (t - suc s) = omega (arith, parts .from) in
                 let q : 0 + (s + 1) ≡ suc s = omega arith in
                 let whole : cellsFrom live gates 0 t ≡ (before ++ (cellOf gates s ∷ [])) ++ c .before =
-                    ap (cellsFrom live gates 0) p ∙ cells-part live gates 0 (s + 1) (t - suc s)
-                    ∙ ap₂ _++_ below (ap (λ x. cellsFrom live gates x (t - suc s)) q ∙ sym (parts .before)) in
+                ap (cellsFrom live gates 0) p ∙ cells-part live gates 0 (s + 1) (t - suc s)
+                ∙ ap₂ _++_ below (ap (λ x. cellsFrom live gates x (t - suc s)) q ∙ sym (parts .before)) in
                 omega (arith, ap length whole, length-append (before ++ (cellOf gates s ∷ [])) c.before, length-append before (cellOf gates s ∷ []))

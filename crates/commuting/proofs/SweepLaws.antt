@@ -1,18 +1,14 @@
 -- One turn of the commuting sweep: what was to come is what is done and what is still to come.
-use mathlib.Core.Path.{_≡_, refl, sym, ap, ap₂, subst, _∙_}
-use mathlib.Core.Bool.{Bool, true, false, not, cond, _&&_}
-use mathlib.Core.List.{List, [], _∷_, _++_, append-assoc}
+use mathlib.Core.Path.{_≡_, refl, ap, ap₂, _∙_}
+use mathlib.Core.Bool.{true}
+use mathlib.Core.List.{List, [], _∷_}
 use mathlib.Core.Option.{Option, some, none}
-use Prim.Native.Nat.{ℕ, suc, _+_, _-_, _≤_, _<_}
+use Prim.Native.Nat.{ℕ, suc, _+_, _≤_}
 use native.Mathlib.Omega.{arith}
-use lib.Dec.{eqb}
-use lib.ListN.{length, length-append}
-use borrow.Author.Tests.{ne-eqb, eq-eqb}
-use Rattle.gates.specs.declared.Gate.{Gate}
+use lib.ListN.{length}
 use Rattle.rules.specs.Equal.{equal, isPair}
 use Rattle.rules.specs.Steps.{Cell, Cut, try, when}
-use Rattle.rules.specs.Sweeps.{Done, Walk, reached, blocked, stay, fire, look, cut, without, walkPast, walked, commutingFrom}
-use Rattle.rules.proofs.Cuts.{Parts, cut-is}
+use Rattle.rules.specs.Sweeps.{Done, reached, blocked, stay, fire, look, cut, without, walkPast, walked, commutingFrom}
 use Rattle.rules.proofs.Fuel.{commuting-enough}
 
 unfolded : (n i : ℕ) (e : Cell ℕ) (l : List (Cell ℕ)) →

@@ -1,8 +1,8 @@
 -- One turn of the commuting sweep in code: the partner that is found, the walk's answer, and what is then still to come.
 use mathlib.Core.Path.{_≡_, refl, sym, ap, ap₂, subst, _∙_}
-use mathlib.Core.Bool.{Bool, true, false, not, cond, _&&_, false≢true}
+use mathlib.Core.Bool.{Bool, true, false, not, cond, _&&_}
 use mathlib.Core.List.{List, [], _∷_, _++_}
-use mathlib.Core.Option.{Option, some, none}
+use mathlib.Core.Option.{Option, none}
 use Prim.Native.Nat.{ℕ, suc, _+_, _*_, _-_, _≤_, _<_}
 use native.Mathlib.Numerals.{add-one}
 use native.Mathlib.Omega.{arith}
@@ -15,17 +15,17 @@ use Rattle.gates.specs.declared.Gate.the-variants.{X, H, S, Sdg, Z, T, Tdg, Cno
 use Rattle.gates.specs.Gates.{has, wiresOf}
 use Rattle.gates.specs.Records.{recordOf}
 use Rattle.rules.specs.Equal.{inserted, sorted, ordered, canonical, equal, isPair}
-use Rattle.rules.specs.Steps.{Cell, Cut, Step, step, when}
+use Rattle.rules.specs.Steps.{Cut, step, when}
 use Rattle.rules.specs.Journal.{stepBytes}
-use Rattle.rules.specs.Sweeps.{Done, Walk, reached, blocked, cut, look, fire, walkPast, commutingSweep}
+use Rattle.rules.specs.Sweeps.{Done, cut, look, fire, walkPast}
 use Rattle.leaves.specs.declared.pairs.CommutingPair.{CommutingPair}
 use Rattle.leaves.specs.declared.pairs.Paired.{Paired}
 use Rattle.leaves.specs.Answers.{onTwo, onThree, pairOf}
 use Rattle.slots.specs.declared.Extent.{Extent}
 use Rattle.slots.specs.declared.Slot.{Slot}
 use Rattle.slots.specs.declared.Found.{Found}
-use Rattle.slots.specs.Slots.{gateAt, cellOf, cellsFrom, slotOf, found}
-use Rattle.slots.specs.Live.{isLive, held, earlier, later}
+use Rattle.slots.specs.Slots.{gateAt, cellsFrom, slotOf, found}
+use Rattle.slots.specs.Live.{isLive, earlier, later}
 use Rattle.slots.proofs.CutLaws.{CutFrom, cut-from-parts, below-reverse}
 use Rattle.slots.proofs.AnswerLaws.{PartedAt, found-parted, found-none}
 use Rattle.journal.specs.Sweeping.{Went, TakenOut}
@@ -190,11 +190,11 @@ module _ (bytes words : List ℕ) (k : Extent) (s : ℕ) (inside : s < k .gates)
               go : (e : Ending) → w .ending ≡ e → w .looks ≤ (commutingAhead bytes words k s) .looks
               go Ending.Blocked p =
                   let q : (commutingAhead bytes words k s) .looks ≡ w .looks + (commutingAhead bytes words k (s + 1)) .looks =
-                      ap (λ d. d .looks) (blocks p) in
+                  ap (λ d. d .looks) (blocks p) in
                   omega (arith, q)
               go Ending.Reached p =
                   let q : (commutingAhead bytes words k s) .looks ≡ w .looks + (ahead left (gateAt bytes) (k .gates) (s + 1)) .looks =
-                      ap (λ d. d .looks) (reaches p) in
+                  ap (λ d. d .looks) (reaches p) in
                   omega (arith, q)
 
           -- There is room for the step, since it is one of those to come.

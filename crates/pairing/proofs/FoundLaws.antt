@@ -4,7 +4,6 @@ use mathlib.Core.Bool.{Bool, true, false, false≢true}
 use mathlib.Core.List.{List}
 use mathlib.Core.Option.{Option, some, none}
 use Prim.Native.Nat.{ℕ, _<_}
-use native.Mathlib.Omega.{arith}
 use Rattle.gates.specs.declared.Gate.{Gate}
 use Rattle.gates.specs.declared.records.Record.{Record}
 use Rattle.gates.specs.Gates.{has, shares}

@@ -186,7 +186,7 @@ module _ {A : Type 0} (kinds : List ℕ) where
 
   -- ------------------------------------------------------------ the other sweeps take no looks
 
-  abbrev None : Sweep A → Type 0
+  abbrev pub None : Sweep A → Type 0
   None f = (l : List (Cell A)) → (f l) .looks ≡ 0
 
   followed-none : (f h : Sweep A) → None f → None h → None (followed f h)
@@ -201,7 +201,7 @@ module _ {A : Type 0} (kinds : List ℕ) where
       go [] ih = p l
       go (x ∷ s) ih = ap₂ _+_ (p l) (ih ((f l) .list))
 
-  repeated-none : (f : Sweep A) → None f → None (repeated f)
+  pub repeated-none : (f : Sweep A) → None f → None (repeated f)
   unfolding repeated
   repeated-none f p l = repeat-none (suc (size l)) f p l
 
@@ -244,7 +244,7 @@ module _ {A : Type 0} (kinds : List ℕ) where
       at-open true h = at-close (cut (isHOn w) l) h
       at-open false h = h _ _
 
-  pair-none : None (pairSweep kinds)
+  pub pair-none : None (pairSweep kinds)
   unfolding pairSweep
   pair-none l = pairs-none l []
 
@@ -254,7 +254,7 @@ module _ {A : Type 0} (kinds : List ℕ) where
   next-h-sweep-none (suc w) l = followed-none (nextHSweep w) (λ m. nextHFrom (length m) w 0 m) (next-h-sweep-none w)
       (λ m. next-h-none (length m) w 0 m) l
 
-  hadamard-none : (n : ℕ) → None (hadamardSweep n)
+  pub hadamard-none : (n : ℕ) → None (hadamardSweep n)
   hadamard-none n l = ap (λ d. d .looks) (hadamard-next-h n l) ∙ next-h-sweep-none n l
 
   none-then : (g b k : ℕ) (f h : Sweep A) → Replays kinds f → None f → Few g b k h → Few g b k (followed f h)

@@ -1,14 +1,11 @@
 -- `commuting::sweep::try_partner` meets its contract.
-use mathlib.Core.Path.{_≡_, refl, sym, ap, subst, _∙_}
+use mathlib.Core.Path.{sym, ap, _∙_}
 use mathlib.Core.Bool.{false≢true}
-use Prim.Native.Nat.{_+_, _-_, _≤_, _<_}
-use native.Mathlib.Numerals.{add-one}
 use native.Mathlib.Omega.{arith}
 use borrow.Author.Needs.{needs}
 use Rattle.leaves.specs.Answers.{pairOf}
 use Rattle.links.proofs.WordLaws.{within-none}
 use Rattle.slots.proofs.StateLaws.{live-below, links-in-room}
-use Rattle.journal.specs.Sweeping.{Went}
 use Rattle.commuting.proofs.TurnLaws.{went-counted, other-no-pair, turn-alone, partner-live, partner-past, partner-equal, turn-blocked, looks-to-come, step-room, turn-reached}
 use Rattle.commuting.proofs.sweep.try_partner.Statement.{statement}
 use Rattle.commuting.proofs.sweep.try_partner.Tie as tie
@@ -66,8 +63,7 @@ walk-past-requires c κs =
     let start = named .before .before .before .before .before in
     let inside = live-below _ _ _ (start .pre .1 .0 .0) in
     let told = found .partner2 .given .1 in
-    let is = sym (ap pairOf (named .before .gate-at .ensures)) ∙ sym (named .pair-of .ensures) ∙ paired .paired .given .1 in
-    (
+    let is = sym (ap pairOf (named .before .gate-at .ensures)) ∙ sym (named .pair-of .ensures) ∙ paired .paired .given .1 in (
       start .pre .0,
       ((start .pre .1 .0 .0, partner-live _ _ _ _ inside (start .pre .1 .0 .0) _ (asked .partner .ensures) _ told, partner-past _ _ _ _ inside (start .pre .1 .0 .0) _ (asked .partner .ensures) _ told), (is, partner-equal _ _ _ _ inside (start .pre .1 .0 .0) _ (asked .partner .ensures) _ told)),
     )
@@ -102,8 +98,7 @@ take-pair-requires c κs =
     let start = named .before .before .before .before .before in
     let inside = live-below _ _ _ (start .pre .1 .0 .0) in
     let told = found .partner2 .given .1 in
-    let is = sym (ap pairOf (named .before .gate-at .ensures)) ∙ sym (named .pair-of .ensures) ∙ paired .paired .given .1 in
-    (
+    let is = sym (ap pairOf (named .before .gate-at .ensures)) ∙ sym (named .pair-of .ensures) ∙ paired .paired .given .1 in (
       start .pre .0,
       ((start .pre .1 .0 .0, partner-live _ _ _ _ inside (start .pre .1 .0 .0) _ (asked .partner .ensures) _ told, partner-past _ _ _ _ inside (start .pre .1 .0 .0) _ (asked .partner .ensures) _ told), step-room _ _ _ _ inside (start .pre .1 .0 .0) _ (asked .partner .ensures) _ told (start .pre .1 .0 .1) (walked .walk-past .result) (walked .walk-past .ensures .0) (ended .enum-told4 .given .1) _ _ (start .pre .1 .1 .0)),
     )
@@ -136,8 +131,7 @@ returns-3 c =
     let start = named .before .before .before .before .before in
     let inside = live-below _ _ _ (start .pre .1 .0 .0) in
     let told = found .partner2 .given .1 in
-    let is = sym (ap pairOf (named .before .gate-at .ensures)) ∙ sym (named .pair-of .ensures) ∙ paired .paired .given .1 in
-    (
+    let is = sym (ap pairOf (named .before .gate-at .ensures)) ∙ sym (named .pair-of .ensures) ∙ paired .paired .given .1 in (
       start .pre .0,
       (
         went-counted _ _ _ _ _ _ _ _ (turn-blocked _ _ _ _ inside (start .pre .1 .0 .0) _ (asked .partner .ensures) _ told (start .pre .1 .0 .1) (walked .walk-past .result) (walked .walk-past .ensures .0) _ _ (c .enum-told3 .given .1)) (omega arith),
