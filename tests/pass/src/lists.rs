@@ -12,8 +12,7 @@ pub fn parts(share: Share) -> Vec<Part> {
     let one_wire = share.of(6, 5);
     let three_wires = share.of(4, 3);
     let seeds = share.of(500_000, 50_000);
-    let long = share.of(100_000, 10_000);
-    vec![
+    let mut parts: Vec<Part> = vec![
         (
             "the small lists of document 01".into(),
             Box::new(documented()),
@@ -30,11 +29,9 @@ pub fn parts(share: Share) -> Vec<Part> {
             format!("{} random lists", 2 * seeds),
             Box::new((0..seeds).flat_map(|seed| [random(seed).into(), dense(seed).into()])),
         ),
-        (
-            format!("long lists of every family, {long} gates"),
-            Box::new(families(long, share.of(20_000, 4_000))),
-        ),
-    ]
+    ];
+    parts.extend(families(share.of(100_000, 10_000), share.of(20_000, 4_000)));
+    parts
 }
 
 fn short(wires: usize, letters: Vec<[u8; 16]>, longest: usize) -> impl Iterator<Item = Trial> {
@@ -45,15 +42,16 @@ fn short(wires: usize, letters: Vec<[u8; 16]>, longest: usize) -> impl Iterator<
         .map(move |list| Trial::exact(wires, 1, list))
 }
 
-/// A fan-out takes time with the square of its gates.
-fn families(gates: usize, fan_out: usize) -> impl Iterator<Item = Trial> {
+/// A list of each family; a fan-out takes time with the square of its gates.
+fn families(gates: usize, fan_out: usize) -> impl Iterator<Item = Part> {
     Family::ALL.into_iter().map(move |family| {
         let gates = match family {
             Family::FanOut | Family::FanOutBlocked => fan_out,
             _ => gates,
         };
-        eprintln!("  {}", family.name());
-        family.make(gates, 1).into()
+        let name = format!("a long list, {}, {gates} gates", family.name());
+        let made = std::iter::once_with(move || family.make(gates, 1).into());
+        (name, Box::new(made) as Box<dyn Iterator<Item = Trial>>)
     })
 }
 

@@ -9,7 +9,7 @@ struct Plain {
 }
 
 /// The list that comes out, and the journal.
-pub fn pass(wires: usize, list: &[u8]) -> (Vec<u8>, Vec<u8>) {
+pub fn pass(list: &[u8]) -> (Vec<u8>, Vec<u8>) {
     let mut plain = Plain {
         list: gates_of(list),
         journal: Vec::new(),
@@ -17,7 +17,7 @@ pub fn pass(wires: usize, list: &[u8]) -> (Vec<u8>, Vec<u8>) {
     plain.pairs();
     loop {
         let mut fired = false;
-        while plain.hadamards(wires) {
+        while plain.hadamards() {
             fired = true;
         }
         while plain.commuting() {
@@ -56,14 +56,15 @@ impl Plain {
         self.journal.len() > before
     }
 
-    /// One Hadamard sweep over all wires: whether it fired.
-    fn hadamards(&mut self, wires: usize) -> bool {
+    /// One Hadamard sweep, wires upwards: whether it fired.
+    fn hadamards(&mut self) -> bool {
         let before = self.journal.len();
-        // A wire that no gate touches has nothing to walk.
-        let mut used: Vec<u32> = self.list.iter().flat_map(|g| g.wires()).copied().collect();
+        // A wire without an h has nothing to open.
+        let openers = self.list.iter().filter(|gate| gate.kind == H);
+        let mut used: Vec<u32> = openers.map(|gate| gate.words[0]).collect();
         used.sort_unstable();
         used.dedup();
-        for wire in used.into_iter().filter(|&wire| (wire as usize) < wires) {
+        for wire in used {
             self.hadamards_on(wire);
         }
         self.journal.len() > before
