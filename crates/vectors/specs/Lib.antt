@@ -1,0 +1,2 @@
+-- What the replay's turns say.
+pub mod Turns
