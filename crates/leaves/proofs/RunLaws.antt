@@ -1,11 +1,11 @@
 -- The gates of a run on a wire, and the h and x on it: what the arms of the code answer is what the rules say.
 use mathlib.Core.Path.{_≡_, refl, sym}
-use mathlib.Core.Bool.{Bool, true, false, cond, _&&_, or-false}
+use mathlib.Core.Bool.{Bool, true, false, cond, _&&_, or-false, false≢true}
 use mathlib.Core.List.{List, [], _∷_, map}
 use mathlib.Core.Option.{Option, some, none}
-use Prim.Native.Nat.{ℕ, _<_}
+use Prim.Native.Nat.{ℕ, zero, suc, _*_, _/_, _%_, _^_, _≤_, _<_}
 use native.Mathlib.Omega.{arith}
-use lib.Dec.{eqb}
+use lib.Dec.{eqb, leb}
 use borrow.Author.Tests.{ne-eqb}
 use types.Run.{OneOf}
 use denote.Enum.Declared.{tagOf}
@@ -14,7 +14,6 @@ use Rattle.gates.specs.declared.Gate.{Gate}
 use Rattle.gates.specs.declared.Gate.the-variants.{X, H, S, Sdg, Z, T, Tdg, Cnot, Cz, Ccx, Ccz, Measure, Reset, Y, Sx, Swap, Cy, Ch, Cswap}
 use Rattle.gates.specs.Gates.{wiresOf, has, touches}
 use Rattle.gates.specs.Records.{kindOf, recordOf}
-use Rattle.gates.proofs.KindLaws.{NoneOf}
 use Rattle.rules.specs.Runs.{worth, worthOn}
 use Rattle.leaves.specs.Answers.{worthBy}
 use Rattle.rules.proofs.EqualLaws.{eqb-comm}
@@ -69,11 +68,17 @@ worth-by (Cy c t) = refl
 worth-by (Ch c t) = refl
 worth-by (Cswap c a b) = refl
 
--- a kind that none of the code's arms names
-pub worth-else : (kind : ℕ) → NoneOf (6 ∷ 3 ∷ 4 ∷ 2 ∷ 5 ∷ []) kind → none ≡ worthBy kind
+-- a kind past those of runs
+worth-past : (kind : ℕ) → 7 ≤ kind → none ≡ worthBy kind
 unfolding worthBy
-worth-else kind n =
-    rw (ne-eqb kind 5 (n .0 .0 .0 .0 .1), ne-eqb kind 2 (n .0 .0 .0 .1), ne-eqb kind 4 (n .0 .0 .1), ne-eqb kind 3 (n .0 .1), ne-eqb kind 6 (n .1))
+worth-past kind h =
+    rw (
+      ne-eqb kind 5 (λ e. omega (arith, e, h)),
+      ne-eqb kind 2 (λ e. omega (arith, e, h)),
+      ne-eqb kind 4 (λ e. omega (arith, e, h)),
+      ne-eqb kind 3 (λ e. omega (arith, e, h)),
+      ne-eqb kind 6 (λ e. omega (arith, e, h)),
+    )
 
 -- a worth is less than a whole turn
 pub worth-small : (kind j : ℕ) → worthBy kind ≡ some j → j < 8
@@ -88,3 +93,28 @@ worth-small kind =
     small : (b : Bool) (k : ℕ) (rest : Option ℕ) → k < 8 → ((j : ℕ) → rest ≡ some j → j < 8) → (j : ℕ) → cond b (some k) rest ≡ some j → j < 8
     small true k rest k<8 h j e = let same : k ≡ j = cc in omega (arith, k<8, same)
     small false k rest k<8 h j e = h j e
+
+-- ------------------------------------------------------------ worths as digits
+
+-- The digits to the base 16 of one number, from the lowest on: 0, 0, 2, 6, 4, 1, 7.
+pub digit-is : (kind : ℕ) → 2 ≤ kind → kind ≤ 6 → some (118776320 / 2 ^ (4 * kind) % 16) ≡ worthBy kind
+unfolding worthBy
+digit-is zero p q = absurd (omega (arith, p))
+digit-is (suc zero) p q = absurd (omega (arith, p))
+digit-is (suc (suc zero)) p q = refl
+digit-is (suc (suc (suc zero))) p q = refl
+digit-is (suc (suc (suc (suc zero)))) p q = refl
+digit-is (suc (suc (suc (suc (suc zero))))) p q = refl
+digit-is (suc (suc (suc (suc (suc (suc zero)))))) p q = refl
+digit-is (suc (suc (suc (suc (suc (suc (suc k))))))) p q = absurd (omega (arith, q))
+
+pub no-digit : (kind : ℕ) → leb 2 kind && leb kind 6 ≡ false → none ≡ worthBy kind
+unfolding worthBy
+no-digit zero e = refl
+no-digit (suc zero) e = refl
+no-digit (suc (suc zero)) e = absurd (false≢true (sym e))
+no-digit (suc (suc (suc zero))) e = absurd (false≢true (sym e))
+no-digit (suc (suc (suc (suc zero)))) e = absurd (false≢true (sym e))
+no-digit (suc (suc (suc (suc (suc zero))))) e = absurd (false≢true (sym e))
+no-digit (suc (suc (suc (suc (suc (suc zero)))))) e = absurd (false≢true (sym e))
+no-digit (suc (suc (suc (suc (suc (suc (suc k))))))) e = worth-past (suc (suc (suc (suc (suc (suc (suc k))))))) (omega arith)

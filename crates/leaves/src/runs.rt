@@ -58,16 +58,15 @@ fn if_on(w: Wire, on: Wire, eighths: u8) -> Worth
     }
 }
 
-// What a gate of a kind is worth in a run.
+// What a gate of a kind is worth in a run. The worths of the kinds from 0 on are digits to the base 16 of one number, since a
+// choice by the kind is guessed wrong most of the time.
 pub fn worth_of(kind: u8) -> Worth
     ensures { λ r. ⌜ eighthsOf r ≡ worthBy kind ⌝ }
 {
-    match kind {
-        5 => Worth::Eighths(1),
-        2 => Worth::Eighths(2),
-        4 => Worth::Eighths(4),
-        3 => Worth::Eighths(6),
-        6 => Worth::Eighths(7),
-        _ => Worth::NotInRun,
+    if (2 <= kind) & (kind <= 6) {
+        let digits: u32 = 118776320;
+        Worth::Eighths(((digits >> (4 * (kind as u32))) % 16) as u8)
+    } else {
+        Worth::NotInRun
     }
 }
