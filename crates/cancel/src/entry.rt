@@ -10,7 +10,7 @@ use pairing::first;
 use slots::Extent;
 
 // What a call comes back with: document 01's m, s and walked; or the number and the place of a refusal.
-#[derive(Drop)]
+#[derive(Clone, Copy)]
 pub enum Cancelled {
     Done {
         left: usize,

@@ -15,7 +15,7 @@ use leaves::pairs::Paired;
 use slots::{Extent, Found, Slot};
 
 // The steps of the journal so far, and the gates that walks looked at.
-#[derive(Drop)]
+#[derive(Clone, Copy)]
 pub struct Swept {
     pub steps: usize,
     pub looks: u64,

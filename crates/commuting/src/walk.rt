@@ -16,20 +16,20 @@ use passing::quick;
 use passing::quick::Past;
 use slots::{Extent, Slot};
 
-#[derive(Drop)]
+#[derive(Clone, Copy)]
 pub enum Ending {
     Reached,
     Blocked,
 }
 
 // How a walk ended, and the gates that it looked at.
-#[derive(Drop)]
+#[derive(Clone, Copy)]
 pub struct Walked {
     pub ending: Ending,
     pub looks: u64,
 }
 
-#[derive(Drop)]
+#[derive(Clone, Copy)]
 pub enum Seen {
     Partner,
     Passed(usize),

@@ -3,7 +3,7 @@ ghost use Rattle.std.specs.Prelude.{◌≡◌, ◌<◌};
 ghost use Rattle.gates.specs.Kinds.{row_of};
 
 // How many wires a kind has, and whether it carries an angle.
-#[derive(Drop)]
+#[derive(Clone, Copy)]
 pub struct Row {
     pub operands: u8,
     pub angle: bool,

@@ -1,20 +1,22 @@
 // Gates and their records: what every other crate stands on.
+#![tactic(auto)]
+
 pub mod kinds;
 pub mod records;
 pub mod words;
 
 // A wire, a classical bit and a list position are all small whole numbers; three types keep them apart.
-#[derive(Drop)]
+#[derive(Clone, Copy)]
 pub struct Wire(pub u32);
 
-#[derive(Drop)]
+#[derive(Clone, Copy)]
 pub struct Bit(pub u32);
 
-#[derive(Drop)]
+#[derive(Clone, Copy)]
 pub struct Position(pub u32);
 
 // The kinds without an angle, in the order and with the fields of the source's enum `Gate`.
-#[derive(Drop)]
+#[derive(Clone, Copy)]
 pub enum Gate {
     X(Wire),
     H(Wire),

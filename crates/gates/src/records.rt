@@ -6,7 +6,7 @@ ghost use Rattle.gates.specs.Records.{record_at, named_by, gate_of, record_of, r
 use crate::{Bit, Gate, Position, Wire, kinds, words};
 
 // The fields of a record, in the order of its bytes.
-#[derive(Drop)]
+#[derive(Clone, Copy)]
 pub struct Record {
     pub kind: u8,
     pub padding: u32,
@@ -16,7 +16,7 @@ pub struct Record {
 }
 
 // The gate of a record, or why it is none.
-#[derive(Drop)]
+#[derive(Clone, Copy)]
 pub enum Decoded {
     Gate(Gate),
     Angle,

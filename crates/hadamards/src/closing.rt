@@ -14,28 +14,28 @@ use leaves::runs::Worth;
 use slots::{Extent, Found, Slot};
 
 // A run behind an h: the h that closes it and its sum modulo 8; open where another gate ends it, or none.
-#[derive(Drop)]
+#[derive(Clone, Copy)]
 pub enum Run {
     Closed { closer: Slot, sum: u8 },
     Open,
 }
 
 // How an h is closed: by an x and an h, or by a run of that sum and an h.
-#[derive(Drop)]
+#[derive(Clone, Copy)]
 pub enum Closing {
     ByX(Slot),
     ByRun { closer: Slot, sum: u8 },
     Nothing,
 }
 
-#[derive(Drop)]
+#[derive(Clone, Copy)]
 pub enum Put {
     One(Gate),
     Nothing,
 }
 
 // What is put in place of both h, and of the first gate between them.
-#[derive(Drop)]
+#[derive(Clone, Copy)]
 pub struct Forms {
     pub ends: Put,
     pub first: Put,

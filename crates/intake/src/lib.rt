@@ -1,4 +1,5 @@
 // The tests that every entry makes of its own input: numbers 1 to 12 of document 01, in their order.
+#![tactic(auto)]
 ghost use Rattle.std.specs.Prelude.{◌≡◌, ◌+◌, ◌*◌, ◌≤◌, length};
 ghost use Rattle.gates.specs.Records.{record_at};
 ghost use Rattle.intake.specs.Tests.{first_failing, size_tests, journal_tests, record_tests, list_tests, input_tests};
@@ -8,14 +9,14 @@ use gates::{Position, records};
 
 mod operands;
 
-#[derive(Drop)]
+#[derive(Clone, Copy)]
 pub enum Tested {
     Accepted,
     Refused { number: u32, place: Position },
 }
 
 // What a caller has: wires, classical bits, bytes of output (checker: replay), 32-bit words of work.
-#[derive(Drop)]
+#[derive(Clone, Copy)]
 pub struct Sizes {
     pub wires: usize,
     pub bits: usize,
@@ -24,7 +25,7 @@ pub struct Sizes {
 }
 
 // Only the pass is asked for room for a journal.
-#[derive(Drop)]
+#[derive(Clone, Copy)]
 pub enum JournalRoom {
     NotAsked,
     Bytes(usize),

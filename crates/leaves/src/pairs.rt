@@ -6,7 +6,7 @@ use crate::equal;
 use gates::{Gate, Wire};
 
 // A cnot, cz, ccx or ccz with its wires in canonical order.
-#[derive(Drop)]
+#[derive(Clone, Copy)]
 pub enum CommutingPair {
     Cnot(Wire, Wire),
     Cz(Wire, Wire),
@@ -14,7 +14,7 @@ pub enum CommutingPair {
     Ccz(Wire, Wire, Wire),
 }
 
-#[derive(Drop)]
+#[derive(Clone, Copy)]
 pub enum Paired {
     Pair(CommutingPair),
     Other,

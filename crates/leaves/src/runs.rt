@@ -8,7 +8,7 @@ ghost use Rattle.leaves.specs.Answers.{eighths_of, worth_by};
 use gates::{Gate, Wire};
 
 // What a gate is worth in a run, in eighth turns.
-#[derive(Drop)]
+#[derive(Clone, Copy)]
 pub enum Worth {
     Eighths(u8),
     NotInRun,

@@ -1,4 +1,6 @@
 // Links between nodes in lent words: a stack's push, a ring's unlink, and clearing.
+#![tactic(auto)]
+
 ghost use Rattle.std.specs.Prelude.{◌≡◌, ◌+◌, ◌≤◌, ◌<◌, length, get_or, set};
 ghost use Rattle.links.specs.Words.{word, Cleared};
 

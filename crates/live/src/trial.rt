@@ -14,7 +14,7 @@ use gates::{Position, Wire, kinds, records};
 use intake::{JournalRoom, Sizes, Tested};
 use slots::{Extent, Found, Slot};
 
-#[derive(Drop)]
+#[derive(Clone, Copy)]
 pub struct Answers {
     pub before: Found,
     pub after: Found,
@@ -24,7 +24,7 @@ pub struct Answers {
     pub last: Found,
 }
 
-#[derive(Drop)]
+#[derive(Clone, Copy)]
 pub enum Tried {
     Done { left: usize },
     Refused { number: u32, place: Position },

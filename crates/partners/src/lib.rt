@@ -1,4 +1,5 @@
 // Partners: each cnot, cz, ccx and ccz is linked to the equal ones before and after it. Three keys tell equal pairs.
+#![tactic(auto)]
 ghost use Rattle.std.specs.Prelude.{◌≡◌, cond, ◌+◌, ◌*◌, ◌≤◌, ◌<◌, length};
 ghost use Rattle.gates.specs.Gates.{All};
 ghost use Rattle.gates.specs.Records.{operand_words};
@@ -15,7 +16,7 @@ use order::Room;
 use slots::Extent;
 
 // Two gates of these kinds are equal exactly where their keys are.
-#[derive(Drop)]
+#[derive(Clone, Copy)]
 pub struct Keys {
     pub first: u32,
     pub middle: u32,

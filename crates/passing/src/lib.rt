@@ -1,4 +1,5 @@
 // Which gates may pass a pair.
+#![tactic(auto)]
 pub mod quick;
 
 ghost use Rattle.std.specs.Prelude.{◌≡◌};

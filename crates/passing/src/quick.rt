@@ -7,7 +7,7 @@ use leaves::pairs::CommutingPair;
 
 // A pair's wires as a gate that meets it sees them: its target, which no wire is where it has none, and the wires that it
 // only reads.
-#[derive(Drop)]
+#[derive(Clone, Copy)]
 pub struct Past {
     pub cnot: bool,
     pub target: u32,

@@ -1,4 +1,5 @@
 // The C boundary: each entry under its C name, its answer as numbers.
+#![tactic(auto)]
 ghost use Rattle.std.specs.Prelude.{◌≡◌, length};
 ghost use Rattle.cancel.specs.Cancelling.{tests_of, cancelled_as, out_after, work_after, journal_after, numbers_of};
 ghost use Rattle.stridebank.specs.Boundary.{as_numbers};
@@ -8,7 +9,7 @@ use cancel::entry::Cancelled;
 
 // Document 01's number, place, m, s and walked.
 #[repr(C)]
-#[derive(Drop)]
+#[derive(Clone, Copy)]
 pub struct StridebankCancelled {
     pub number: u64,
     pub place: u64,

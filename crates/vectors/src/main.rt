@@ -1,6 +1,7 @@
 // Replays stored answers of the published Rust: every list goes through the pass, and what comes out must be the Rust's.
 // The sample on standard input is, for each list, words of four bytes: wires, bits, records, records left, walked; then the
 // records, and those left. `cargo run --release --bin vectors` writes it.
+#![tactic(auto)]
 mod replay;
 
 use libc::{STDIN_FILENO, STDOUT_FILENO};

@@ -7,7 +7,7 @@ use cancel::entry::Cancelled;
 use gates::words;
 
 // The answer is the Rust's, and the next list stands there; or it is another; or the sample is broken.
-#[derive(Drop)]
+#[derive(Clone, Copy)]
 pub enum Turn {
     Same(usize),
     Other,
@@ -71,7 +71,7 @@ fn replay(sample: &[u8], at: usize, out: &mut [u8], work: &mut [u32], journal: &
 }
 
 // How many lists came out as the Rust has them, and whether all did.
-#[derive(Drop)]
+#[derive(Clone, Copy)]
 pub struct Replayed {
     pub lists: u64,
     pub same: bool,

@@ -1,4 +1,5 @@
 // The live list for Rust: each function is one of `asking` or `live` under a C name, for bench/ and its comparison.
+#![tactic(auto)]
 ghost use Rattle.std.specs.Prelude.{◌≡◌, true, ℕ, ◌*◌, ◌≤◌, ◌<◌, length, drop};
 ghost use Rattle.std.proofs.Math.Option.{some};
 ghost use Rattle.gates.specs.Records.{record_at};
