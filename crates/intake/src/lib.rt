@@ -1,5 +1,6 @@
 // The tests that every entry makes of its own input: numbers 1 to 12 of document 01, in their order.
 #![tactic(auto)]
+
 ghost use Rattle.std.specs.Prelude.{◌≡◌, ◌+◌, ◌*◌, ◌≤◌, length};
 ghost use Rattle.gates.specs.Records.{record_at};
 ghost use Rattle.intake.specs.Tests.{first_failing, size_tests, journal_tests, record_tests, list_tests, input_tests};

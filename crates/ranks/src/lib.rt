@@ -1,6 +1,7 @@
 // Ranks: the position of a slot among the marked ones, and the slot at a position. A mark is a bit, 32 to a word; sums of marks
 // in blocks of 32, 1,024 and 32,768 slots keep each question to a few dozen words, all of them in a near cache.
 #![tactic(auto)]
+
 ghost use Rattle.std.specs.Prelude.{◌≡◌, cond, ◌+◌, ◌*◌, ◌-◌, ◌/◌, ◌≤◌, ◌<◌, ◌^◌, eqb, ltb, length};
 ghost use Rattle.links.specs.Words.{word};
 ghost use Rattle.ranks.specs.Ranks.{bit, below, size_for, marks, Ranks, Marked, Blank};

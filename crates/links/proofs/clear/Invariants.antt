@@ -1,7 +1,5 @@
 use Prim.Native.Nat.{◌-◌, ◌≤◌}
-use native.Mathlib.Omega.{arith}
 use Rattle.links.specs.Words.{Cleared}
-use Rattle.links.proofs.WordLaws.{cleared-none, cleared_more, cleared-all}
 use Rattle.links.proofs.clear.Given as goal
 
 abbrev pub invariant-loop-i : goal.invariant-loop-i

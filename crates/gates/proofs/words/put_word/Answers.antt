@@ -1,6 +1,4 @@
-use native.Mathlib.Omega.{arith}
 use native.Mathlib.Numerals.{towards_suc}
-use lib.ListN.{length-set}
 use Rattle.gates.specs.Words.{bytes_of}
 use Rattle.gates.proofs.words.put_word.Goals as goal
 

@@ -1,0 +1,15 @@
+use mathlib.Core.Path.{◌≡◌, sym, ap, ◌∙◌}
+use Prim.Native.Nat.{ℕ, ◌+◌, ◌-◌, ◌/◌, ◌%◌, ◌^◌, ◌≤◌}
+use native.Mathlib.Omega.{arith}
+use Rattle.ranks.specs.Ranks.{bit, below}
+use Rattle.ranks.proofs.BitLaws.{shift_none, shift-next}
+use Rattle.ranks.proofs.SumLaws.{below_none, below_next}
+use Rattle.ranks.proofs.pick.Given as goal
+
+abbrev pub invariant-loop-i : goal.invariant-loop-i
+invariant-loop-i l =
+    (l.i ≤ l.count) × (l.rest ≡ l.word / 2 ^ l.i) × (l.left + below (bit l.word) l.i ≡ l.sum)
+
+abbrev pub decreases-loop-i : goal.decreases-loop-i
+decreases-loop-i l =
+    l.count - l.i
