@@ -1,5 +1,6 @@
 // Which gates may pass a pair.
 #![tactic(auto)]
+
 pub mod quick;
 
 ghost use Rattle.std.specs.Prelude.{◌≡◌};

@@ -1,0 +1,55 @@
+use mathlib.Core.Path.{ap, refl}
+use mathlib.Core.Logic.{⊎_elim}
+use Rattle.gates.specs.Gates.{wires_of}
+use Rattle.passing.proofs.PassingLaws.{touch-1, touch-2, touch-3, wires-1, wires-2, wires-3}
+use borrow.Author.Rules.{rules}
+use Rattle.passing.proofs.touches.Goals as goal
+
+pub returns-in-Measure : goal.returns-in-Measure
+unfolding wires_of
+returns-in-Measure c =
+    touch-1 _ c.args.g _ (ap wires_of c.in-Measure.is)
+
+pub returns-in-Swap : goal.returns-in-Swap
+unfolding wires_of
+returns-in-Swap c =
+    touch-2 _ c.args.g _ _ (ap wires_of c.in-Swap.is)
+
+pub returns-in-Cswap : goal.returns-in-Cswap
+unfolding wires_of
+returns-in-Cswap c =
+    touch-3 _ c.args.g _ _ _ (ap wires_of c.in-Cswap.is)
+
+pub returns-in-Ccx : goal.returns-in-Ccx
+unfolding wires_of
+returns-in-Ccx c =
+    touch-3 _ c.args.g _ _ _
+    (⊎_elim (λ s. wires-3 s.1.given.1 s.3 s.4 s.5 refl)
+    (λ s. wires-3 s.1.given.1 s.3 s.4 s.5 refl)
+    c.in-Ccx.match-g-branch)
+
+pub returns-in-Cnot : goal.returns-in-Cnot
+unfolding wires_of
+returns-in-Cnot c =
+    touch-2 _ c.args.g _ _
+    (⊎_elim (λ s. wires-2 s.1.given.1 s.3 s.4 refl)
+    (⊎_elim (λ s. wires-2 s.1.given.1 s.3 s.4 refl)
+    (⊎_elim (λ s. wires-2 s.1.given.1 s.3 s.4 refl)
+    (λ s. wires-2 s.1.given.1 s.3 s.4 refl)))
+    c.in-Cnot.match-g-branch)
+
+pub returns-in-X : goal.returns-in-X
+unfolding wires_of
+returns-in-X c =
+    touch-1 _ c.args.g _
+    (⊎_elim (λ s. wires-1 s.1.given.1 s.3 refl)
+    (⊎_elim (λ s. wires-1 s.1.given.1 s.3 refl)
+    (⊎_elim (λ s. wires-1 s.1.given.1 s.3 refl)
+    (⊎_elim (λ s. wires-1 s.1.given.1 s.3 refl)
+    (⊎_elim (λ s. wires-1 s.1.given.1 s.3 refl)
+    (⊎_elim (λ s. wires-1 s.1.given.1 s.3 refl)
+    (⊎_elim (λ s. wires-1 s.1.given.1 s.3 refl)
+    (⊎_elim (λ s. wires-1 s.1.given.1 s.3 refl)
+    (⊎_elim (λ s. wires-1 s.1.given.1 s.3 refl)
+    (λ s. wires-1 s.1.given.1 s.3 refl)))))))))
+    c.in-X.match-g-branch)
