@@ -1,5 +1,6 @@
 // Slots: where the gates of a list stand, and the nodes that link them.
 #![tactic(auto)]
+
 pub mod nodes;
 
 // A place for a record; a gate keeps its slot as long as it lives, while its position falls when gates before it go.

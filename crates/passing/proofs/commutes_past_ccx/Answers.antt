@@ -8,7 +8,6 @@ use Rattle.rules.specs.MayPass.{class_of}
 use Rattle.leaves.proofs.VariantLaws.{after_ccz}
 use Rattle.passing.proofs.PassingLaws.{off-2, off-none-2, none_1, none_2, none-3, diagonal-at, diagonal-1, diagonal-past-ccx, x-past-ccx, cnot-past-ccx, ccx-past-ccx, left-over-past, shares-3}
 use borrow.Author.Rules.{rules}
-use borrow.Enum.Refused
 use Rattle.passing.proofs.commutes_past_ccx.Goals as goal
 
 pub returns-in-X : goal.returns-in-X
@@ -35,16 +34,11 @@ unfolding wires_of has class_of
 returns-in_default c =
     left-over-past (Ccx c.args.a c.args.b c.args.t) c.args.g _ (1 ∷ after_ccz)
     (shares-3 c.args.g _ _ _ _ _ _ c.touches.ensures c.touches-in_default.ensures c.touches-in_default-2.ensures)
-    (Refused.opened c.in_default.in_default-own.keys11) refl
+    c.in_default.in_default-own.keys11 refl
 
 pub returns-in-S : goal.returns-in-S
 unfolding wires_of class_of
 returns-in-S c =
     none_1 _ _
     ∙ diagonal-past-ccx c.args.a c.args.b c.args.t c.args.g _
-    (⊎_elim (λ s. diagonal-1 s.1.given.1 s.3 refl refl)
-    (⊎_elim (λ s. diagonal-1 s.1.given.1 s.3 refl refl)
-    (⊎_elim (λ s. diagonal-1 s.1.given.1 s.3 refl refl)
-    (⊎_elim (λ s. diagonal-1 s.1.given.1 s.3 refl refl)
-    (λ s. diagonal-1 s.1.given.1 s.3 refl refl))))
-    c.in-S.match-g-branch)
+    (⊎_elim (λ s. diagonal-at s refl refl) (⊎_elim (λ s. diagonal-at s refl refl) (⊎_elim (λ s. diagonal-at s refl refl) (⊎_elim (λ s. diagonal-at s refl refl) (λ s. diagonal-at s refl refl)))) c.in-S.is)

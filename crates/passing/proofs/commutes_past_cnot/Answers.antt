@@ -39,9 +39,4 @@ unfolding wires_of class_of
 returns-in-S c =
     none_1 _ _
     ∙ diagonal-past-cnot c.args.c c.args.t c.args.g _
-    (⊎_elim (λ s. diagonal-1 s.1.given.1 s.3 refl refl)
-    (⊎_elim (λ s. diagonal-1 s.1.given.1 s.3 refl refl)
-    (⊎_elim (λ s. diagonal-1 s.1.given.1 s.3 refl refl)
-    (⊎_elim (λ s. diagonal-1 s.1.given.1 s.3 refl refl)
-    (λ s. diagonal-1 s.1.given.1 s.3 refl refl))))
-    c.in-S.match-g-branch)
+    (⊎_elim (λ s. diagonal-at s refl refl) (⊎_elim (λ s. diagonal-at s refl refl) (⊎_elim (λ s. diagonal-at s refl refl) (⊎_elim (λ s. diagonal-at s refl refl) (λ s. diagonal-at s refl refl)))) c.in-S.is)

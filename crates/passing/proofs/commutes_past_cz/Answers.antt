@@ -31,6 +31,6 @@ pub returns-in-Cnot : goal.returns-in-Cnot
 unfolding wires_of class_of
 returns-in-Cnot c =
     off-2 _ _ _
-    ∙ ⊎_elim (λ s. cnot-past-diagonal (Cz c.args.a c.args.b) c.args.g _ _ _ _ (diagonal-at refl refl refl) s.1.given.1 s.3)
-    (λ s. ccx-past-diagonal (Cz c.args.a c.args.b) c.args.g _ _ _ _ _ (diagonal-at refl refl refl) s.1.given.1 s.3)
-    c.in-Cnot.match-g-branch
+    ∙ ⊎_elim (λ s. cnot-past-diagonal (Cz c.args.a c.args.b) c.args.g _ _ _ _ (diagonal-at refl refl refl) s.1 refl)
+    (λ s. ccx-past-diagonal (Cz c.args.a c.args.b) c.args.g _ _ _ _ _ (diagonal-at refl refl refl) s.2 refl)
+    c.in-Cnot.is

@@ -1,7 +1,7 @@
 use mathlib.Core.Path.{ap, refl}
 use mathlib.Core.Logic.{⊎_elim}
 use Rattle.gates.specs.Gates.{wires_of}
-use Rattle.passing.proofs.PassingLaws.{touch-1, touch-2, touch-3, wires-1, wires-2, wires-3}
+use Rattle.passing.proofs.PassingLaws.{touch-1, touch-2, touch-3}
 use borrow.Author.Rules.{rules}
 use Rattle.passing.proofs.touches.Goals as goal
 
@@ -24,32 +24,16 @@ pub returns-in-Ccx : goal.returns-in-Ccx
 unfolding wires_of
 returns-in-Ccx c =
     touch-3 _ c.args.g _ _ _
-    (⊎_elim (λ s. wires-3 s.1.given.1 s.3 s.4 s.5 refl)
-    (λ s. wires-3 s.1.given.1 s.3 s.4 s.5 refl)
-    c.in-Ccx.match-g-branch)
+    (⊎_elim (λ s. ap wires_of s) (λ s. ap wires_of s) c.in-Ccx.is)
 
 pub returns-in-Cnot : goal.returns-in-Cnot
 unfolding wires_of
 returns-in-Cnot c =
     touch-2 _ c.args.g _ _
-    (⊎_elim (λ s. wires-2 s.1.given.1 s.3 s.4 refl)
-    (⊎_elim (λ s. wires-2 s.1.given.1 s.3 s.4 refl)
-    (⊎_elim (λ s. wires-2 s.1.given.1 s.3 s.4 refl)
-    (λ s. wires-2 s.1.given.1 s.3 s.4 refl)))
-    c.in-Cnot.match-g-branch)
+    (⊎_elim (λ s. ap wires_of s) (⊎_elim (λ s. ap wires_of s) (⊎_elim (λ s. ap wires_of s) (λ s. ap wires_of s))) c.in-Cnot.is)
 
 pub returns-in-X : goal.returns-in-X
 unfolding wires_of
 returns-in-X c =
     touch-1 _ c.args.g _
-    (⊎_elim (λ s. wires-1 s.1.given.1 s.3 refl)
-    (⊎_elim (λ s. wires-1 s.1.given.1 s.3 refl)
-    (⊎_elim (λ s. wires-1 s.1.given.1 s.3 refl)
-    (⊎_elim (λ s. wires-1 s.1.given.1 s.3 refl)
-    (⊎_elim (λ s. wires-1 s.1.given.1 s.3 refl)
-    (⊎_elim (λ s. wires-1 s.1.given.1 s.3 refl)
-    (⊎_elim (λ s. wires-1 s.1.given.1 s.3 refl)
-    (⊎_elim (λ s. wires-1 s.1.given.1 s.3 refl)
-    (⊎_elim (λ s. wires-1 s.1.given.1 s.3 refl)
-    (λ s. wires-1 s.1.given.1 s.3 refl)))))))))
-    c.in-X.match-g-branch)
+    (⊎_elim (λ s. ap wires_of s) (⊎_elim (λ s. ap wires_of s) (⊎_elim (λ s. ap wires_of s) (⊎_elim (λ s. ap wires_of s) (⊎_elim (λ s. ap wires_of s) (⊎_elim (λ s. ap wires_of s) (⊎_elim (λ s. ap wires_of s) (⊎_elim (λ s. ap wires_of s) (⊎_elim (λ s. ap wires_of s) (λ s. ap wires_of s))))))))) c.in-X.is)

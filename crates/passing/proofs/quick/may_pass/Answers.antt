@@ -25,10 +25,10 @@ unfolding passes_by
 returns-in-10 c = rw (c.off-in-10.ensures, c.in-10.is) refl
 
 pub returns-in-2-to-6 : goal.returns-in-2-to-6
-returns-in-2-to-6 c = phase-passes c.args.p c.args.r c.if-kind-lt2.false c.in-2-to-6.if-kind-lt7-own.true
+returns-in-2-to-6 c = phase-passes c.args.p c.args.r c.in-2-to-6.if-kind-lt2-own.false c.in-2-to-6.if-kind-lt7-own.true
 
 pub returns-in_default : goal.returns-in_default
-returns-in_default c = below-blocked c.args.p c.args.r c.in_default.if-kind-lt2-own.true c.in_default-1.rest
+returns-in_default c = below-blocked c.args.p c.args.r c.in_default.if-kind-lt2-own.true c.in_default.in_default-own.rest
 
 pub returns-in_default-2 : goal.returns-in_default-2
-returns-in_default-2 c = above-blocked c.args.p c.args.r c.in_default.if-kind-lt7-own.false c.in_default-1.rest
+returns-in_default-2 c = above-blocked c.args.p c.args.r c.in_default.if-kind-lt7-own.false c.in_default.in_default-own.rest

@@ -1,0 +1,13 @@
+use mathlib.Core.Path.{refl}
+use Prim.Native.Nat.{◌*◌, ◌-◌, ◌≤◌}
+use native.Mathlib.Omega.{arith}
+use borrow.Author.Rules.{rules}
+use Rattle.gates.specs.Records.{operand_words}
+use Rattle.slots.proofs.NodeLaws.{IsOperand, operand_at, Taken, taken_none, taken_more, taken-all}
+use Rattle.slots.proofs.nodes.take_off.Given as goal
+
+abbrev pub invariant-loop-op : goal.invariant-loop-op
+invariant-loop-op l = (l.op ≤ l.count) × Taken l.side l.ends (3 * l.slot) l.op (operand_words l.r) l.initial.work l.work
+
+abbrev pub decreases-loop-op : goal.decreases-loop-op
+decreases-loop-op l = l.count - l.op
