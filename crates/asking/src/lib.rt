@@ -1,5 +1,6 @@
 // Questions about the live list. `records` and `work` are what is lent; nothing is changed.
 #![tactic(auto)]
+
 ghost use Rattle.std.specs.Prelude.{◌≡◌, true, ◌+◌, ◌*◌, ◌≤◌, ◌<◌, length, get_or};
 ghost use Rattle.std.proofs.Math.Option.{some};
 ghost use Rattle.gates.specs.declared.records.Decoded.{Decoded};

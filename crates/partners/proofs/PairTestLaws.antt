@@ -79,8 +79,8 @@ module _ (bytes words : List ℕ) (k : Extent) (slot : ℕ) (r : Record) (l : Lo
       go false t = refl
 
   module _ (t : tested live r ≡ true) where
-    is_live : is_live words k slot ≡ true
-    is_live = and_left (is_live words k slot) (is_pair (gate_at bytes slot)) (sym tested-is ∙ t)
+    is_live_lem : is_live words k slot ≡ true
+    is_live_lem = and_left (is_live words k slot) (is_pair (gate_at bytes slot)) (sym tested-is ∙ t)
 
     -- What making keys asks of the record.
     pub keys-ask : ((8 ≤ r.kind) × (r.kind ≤ 11) × (k.wires ≤ 65536)) × All (λ w. w < k.wires) (operand_words r)
@@ -91,13 +91,13 @@ module _ (bytes words : List ℕ) (k : Extent) (slot : ℕ) (r : Record) (l : Lo
             leb-true r.kind 11 (and_right (live && leb 8 r.kind) (leb r.kind 11) t),
             l.narrow,
           ),
-          rw e (operands-small k.wires bytes slot (l.sound slot is_live)),
+          rw e (operands-small k.wires bytes slot (l.sound slot is_live_lem)),
         )
 
     -- They are those of its gate.
     pub keys-are : keys_from (raised k.wires r.kind) (ordered r.kind (operand_words r)) ≡ keys_of k.wires (gate_at bytes slot)
     unfolding canonical
-    keys-are = as-gate r.kind (operand_words r) (kind_at is_live) (ap operand_words e ∙ sym (wires-are k.wires bytes slot (l.sound slot is_live)))
+    keys-are = as-gate r.kind (operand_words r) (kind_at is_live_lem) (ap operand_words e ∙ sym (wires-are k.wires bytes slot (l.sound slot is_live_lem)))
       where
         as-gate : (kind : ℕ) (ws : List ℕ) → kind ≡ kind_of (gate_at bytes slot) → ws ≡ wires_of (gate_at bytes slot) →
             keys_from (raised k.wires kind) (ordered kind ws)

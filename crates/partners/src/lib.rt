@@ -1,5 +1,6 @@
 // Partners: each cnot, cz, ccx and ccz is linked to the equal ones before and after it. Three keys tell equal pairs.
 #![tactic(auto)]
+
 ghost use Rattle.std.specs.Prelude.{◌≡◌, cond, ◌+◌, ◌*◌, ◌≤◌, ◌<◌, length};
 ghost use Rattle.gates.specs.Gates.{All};
 ghost use Rattle.gates.specs.Records.{operand_words};

@@ -1,0 +1,17 @@
+use mathlib.Core.Path.{◌≡◌, ◌∙◌}
+use Prim.Native.Nat.{◌-◌, ◌≤◌}
+use native.Mathlib.Omega.{arith}
+use borrow.Author.Rules.{rules}
+use Rattle.gates.specs.Records.{operand_words}
+use Rattle.slots.specs.Slots.{gate_at}
+use Rattle.slots.specs.Live.{is_live}
+use Rattle.slots.proofs.NodeLaws.{IsOperand, operand_at}
+use Rattle.asking.proofs.BlockerLaws.{latest_on, on_none, on-more, on-all, read_known, read_small, read-wires}
+use Rattle.asking.proofs.blocker_of_next.Given as goal
+
+abbrev pub invariant-loop-op : goal.invariant-loop-op
+invariant-loop-op l =
+    (l.op ≤ l.count) × (l.best ≡ latest_on (is_live l.work l.k) (gate_at l.records) l.k.gates (operand_words l.r) l.op)
+
+abbrev pub decreases-loop-op : goal.decreases-loop-op
+decreases-loop-op l = l.count - l.op

@@ -1,0 +1,7 @@
+use mathlib.Core.Path.{sym, ◌∙◌}
+use borrow.Author.Rules.{rules}
+use Rattle.slots.proofs.StateLaws.{live-is}
+use Rattle.asking.proofs.is_live.Goals as goal
+
+pub returns : goal.returns
+returns c = c.is_marked.ensures ∙ sym (live-is _ _ _)

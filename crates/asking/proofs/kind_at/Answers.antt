@@ -1,0 +1,6 @@
+use borrow.Author.Rules.{rules}
+use Rattle.asking.proofs.AskLaws.{kind-read}
+use Rattle.asking.proofs.kind_at.Goals as goal
+
+pub returns : goal.returns
+returns c = kind-read _ _ c.requires.slot_value

@@ -1,0 +1,7 @@
+use mathlib.Core.Path.{◌∙◌}
+use borrow.Author.Rules.{rules}
+use Rattle.asking.proofs.AskLaws.{wire-read}
+use Rattle.asking.proofs.wire_at.Goals as goal
+
+pub returns : goal.returns
+returns c = c.word_at.ensures ∙ wire-read _ _ c.requires.slot_value
