@@ -1,0 +1,16 @@
+use mathlib.Core.Path.{◌∙◌}
+use Prim.Native.Nat.{◌-◌}
+use native.Mathlib.Omega.{arith}
+use borrow.Author.Rules.{rules}
+use Rattle.links.proofs.WordLaws.{within-then}
+use Rattle.journal.proofs.WentLaws.{went-long}
+use Rattle.pairing.proofs.FirstLaws.{PairedTo, paired_none, paired-fits, paired-more, paired-all}
+use Rattle.pairing.proofs.first.load_pairs.Given as goal
+
+-- `work₀` is what `begin` left: its own change of the words is added at the end.
+abbrev pub invariant-loop-i : goal.invariant-loop-i
+invariant-loop-i l =
+    PairedTo l.list l.initial.records l.initial.work l.initial.journal l.k l.i l.records l.work l.journal l.steps
+
+abbrev pub decreases-loop-i : goal.decreases-loop-i
+decreases-loop-i l = l.k.gates - l.i

@@ -1,0 +1,11 @@
+use Prim.Native.Nat.{◌-◌}
+use native.Mathlib.Omega.{arith}
+use Rattle.journal.proofs.WentLaws.{went-long}
+use Rattle.pairing.proofs.LaterLaws.{SweptTo, swept_none, swept-fits, swept-more, swept_all}
+use Rattle.pairing.proofs.later.cancel_pairs.Given as goal
+
+abbrev pub invariant-loop-i : goal.invariant-loop-i
+invariant-loop-i l = SweptTo l.records l.initial.work l.initial.journal l.k l.steps l.i l.work l.journal l.s
+
+abbrev pub decreases-loop-i : goal.decreases-loop-i
+decreases-loop-i l = l.k.gates - l.i
