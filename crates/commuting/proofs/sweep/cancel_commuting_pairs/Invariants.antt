@@ -1,0 +1,11 @@
+use Prim.Native.Nat.{◌-◌}
+use native.Mathlib.Omega.{arith}
+use Rattle.journal.proofs.WentLaws.{went-long}
+use Rattle.commuting.proofs.SweptLaws.{SweptTo, swept_none, swept-fits, swept-looks, swept-more, swept_all, swept-counted}
+use Rattle.commuting.proofs.sweep.cancel_commuting_pairs.Given as goal
+
+abbrev pub invariant-loop-i : goal.invariant-loop-i
+invariant-loop-i l = SweptTo l.records l.initial.work l.initial.journal l.k l.steps l.i l.work l.journal l.swept.steps l.swept.looks
+
+abbrev pub decreases-loop-i : goal.decreases-loop-i
+decreases-loop-i l = l.k.gates - l.i

@@ -1,0 +1,28 @@
+use mathlib.Core.Path.{◌≡◌, refl, sym, ap, ◌∙◌}
+use Prim.Native.Nat.{◌+◌, ◌*◌, ◌-◌, ◌≤◌, ◌<◌}
+use native.Mathlib.Omega.{arith}
+use mathlib.Core.Logic.{⊎_elim}
+use lib.ListN.{length}
+use Rattle.leaves.specs.Answers.{as_gate}
+use Rattle.slots.proofs.WireLaws.{at-most-three}
+use Rattle.slots.proofs.StateLaws.{live_below}
+use Rattle.commuting.specs.declared.walk.Ending.{Ending}
+use Rattle.commuting.specs.Walking.{ends_as}
+use Rattle.commuting.proofs.WalkLaws.{Meant, Walking, wires, one_left, room-left, may-look, ended}
+use Rattle.commuting.proofs.StartLaws.{started}
+use Rattle.commuting.proofs.LoopLaws.{For, Leads, Round, round-starts, round-skips, round-reaches, round-passes, round-ends, round-looks, round-blocked}
+use Rattle.commuting.proofs.walk.walk_past.Given as goal
+
+abbrev pub invariant-loop-op : goal.invariant-loop-op
+invariant-loop-op l =
+    Round l.records l.work l.partner.0 l.past l.count l.initial.at l.initial.open l.initial.looks l.at l.open l.looks l.ending l.op
+
+abbrev pub decreases-loop-op : goal.decreases-loop-op
+decreases-loop-op l = l.count - l.op
+
+abbrev pub invariant-walk : goal.invariant-walk
+invariant-walk l =
+    (l.ending ≡ Ending.Reached) × Leads l.records l.work l.partner.0 l.past l.count l.initial.at l.initial.open l.initial.looks l.at l.open l.looks 0
+
+abbrev pub decreases-walk : goal.decreases-walk
+decreases-walk l = 3 * length l.records - l.looks

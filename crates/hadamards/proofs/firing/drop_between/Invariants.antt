@@ -1,0 +1,18 @@
+use mathlib.Core.Path.{◌≡◌}
+use mathlib.Core.Bool.{true}
+use Prim.Native.Nat.{◌<◌}
+use lib.ListN.{length, get_or}
+use native.Mathlib.Omega.{arith}
+use borrow.Author.Rules.{rules}
+use Rattle.gates.specs.Gates.{wires_of}
+use Rattle.slots.specs.Slots.{gate_at}
+use Rattle.slots.specs.Live.{is_live, held}
+use Rattle.slots.proofs.StateLaws.{live_below}
+use Rattle.hadamards.proofs.PlacingLaws.{some-wire, NextOn, Dropping, dropping-none, dropping_keeps, dropping-more, dropping-all, next-on, next-there, next-first, held-less}
+use Rattle.hadamards.proofs.firing.drop_between.Given as goal
+
+abbrev pub invariant-loop-j : goal.invariant-loop-j
+invariant-loop-j l = Dropping l.records l.k (get_or (wires_of (gate_at l.records l.from.0)) 0 0) l.from.0 l.to.0 l.initial.work l.work
+
+abbrev pub decreases-loop-j : goal.decreases-loop-j
+decreases-loop-j l = length (held l.records l.work l.k)
