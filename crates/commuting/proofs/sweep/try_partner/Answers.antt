@@ -16,8 +16,7 @@ gate_at-requires c = record {
 
 pub returns-in_default : goal.returns-in_default
 returns-in_default c =
-    let whole = absurd (false≢true (sym (other-no-pair _ (sym (ap pair_of c.gate_at.ensures) ∙ sym c.pair_of-paired.ensures ∙ c.in_default.is)) ∙ c.requires.slot_value.1)) in
-    record { live = whole.0; went = whole.1.0; more = whole.1.1.0; within = whole.1.1.1 }
+    absurd (false≢true (sym (other-no-pair _ (sym (ap pair_of c.gate_at.ensures) ∙ sym c.pair_of-paired.ensures ∙ c.in_default.is)) ∙ c.requires.slot_value.1))
 
 pub returns-in_default-partner : goal.returns-in_default-partner
 returns-in_default-partner c =

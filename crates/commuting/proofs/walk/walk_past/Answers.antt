@@ -12,6 +12,7 @@ use Rattle.commuting.proofs.WalkLaws.{Meant, Walking, wires, one_left, room-left
 use Rattle.commuting.proofs.StartLaws.{started}
 use Rattle.commuting.proofs.LoopLaws.{For, Leads, Round, round-starts, round-skips, round-reaches, round-passes, round-ends, round-looks, round-blocked}
 use Rattle.commuting.proofs.walk.walk_past.Goals as goal
+use Rattle.commuting.proofs.walk.walk_past.Goals.{then-node-ne0+in-Partner, then-node-ne0+in-Passed, else-node-ne0}
 
 pub overflow_cast-slot : goal.overflow_cast-slot
 overflow_cast-slot c =
@@ -195,12 +196,11 @@ pub loop-op-preserved : goal.loop-op-preserved
 loop-op-preserved c =
     let r = c.loop-op.invariant in
     let less = c.loop-op-test.true in
-    ⊎_elim
-    (λ w. round-reaches _ _ _ _ _ _ _ _ _ _ _ _ _ r less w.0.taken _ w.1.ensures _ _ _ _ w.3.given.1 w.4 w.5 w.6 refl)
-    (⊎_elim
-    (λ w. round-passes _ _ _ _ _ _ _ _ _ _ _ _ _ r less w.0.taken _ w.1.ensures _ _ _ _ _ w.3.given.1 w.5 w.6 w.7 refl)
-    (λ w. round-skips _ _ _ _ _ _ _ _ _ _ _ _ _ r less _ _ _ _ w.0.left w.1 w.2 w.3 refl))
-    c.if-node-ne0.branch
+    elim c.if-node-ne0.branch [
+      | then-node-ne0+in-Partner w ↦ round-reaches _ _ _ _ _ _ _ _ _ _ _ _ _ r less w.if-node-ne0.true _ w.look-seen.ensures _ _ _ _ w.in-Partner.is w.at-is w.open-is w.looks-is refl
+      | then-node-ne0+in-Passed w ↦ round-passes _ _ _ _ _ _ _ _ _ _ _ _ _ r less w.if-node-ne0.true _ w.look-seen.ensures _ _ _ _ _ w.in-Passed.is w.at-is w.open-is w.looks-is refl
+      | else-node-ne0 w ↦ round-skips _ _ _ _ _ _ _ _ _ _ _ _ _ r less _ _ _ _ w.if-node-ne0.false w.at-is w.open-is w.looks-is refl
+    ]
 
 pub returns-after-walk : goal.returns-after-walk
 returns-after-walk c =
@@ -244,7 +244,6 @@ returns-in-Blocker c =
     c.operands-count.ensures _ c.starts-at.ensures in
     let at-round : Walking c.args.records.now c.args.work.now c.args.k c.args.slot.0 c.args.partner.0 c.args.pair c.walk.at c.walk.«open» c.walk.looks 0 = c.walk.invariant.1 _ _ _ (its) (begun) in
     let at_turn : Walking c.args.records.now c.args.work.now c.args.k c.args.slot.0 c.args.partner.0 c.args.pair c.loop-op.at c.loop-op.«open» c.loop-op.looks c.loop-op.op = c.loop-op.invariant.leads _ _ _ (its) (at-round) in
-    round-blocked _ _ _ _ _ _ _ _ (its) _ _ _ _
-    (at_turn) c.loop-op-test.true c.if-node-ne0.true _ c.look-seen.ensures c.in
-    let whole = -Blocker.is in
+    let whole = round-blocked _ _ _ _ _ _ _ _ (its) _ _ _ _
+    (at_turn) c.loop-op-test.true c.if-node-ne0.true _ c.look-seen.ensures c.in-Blocker.is in
     record { result_value = whole.0; few = whole.1 }
