@@ -1,4 +1,5 @@
 // The pass: the loop over the three sweeps, and the entry.
 #![tactic(auto)]
+
 pub mod entry;
 pub mod rounds;
