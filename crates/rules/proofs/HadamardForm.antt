@@ -10,7 +10,7 @@ use lib.Dec.{eqb}
 use borrow.Author.Tests.{eqb-true, not-true}
 use Rattle.gates.specs.declared.Wire.{Wire}
 use Rattle.gates.specs.declared.Gate.{Gate}
-use Rattle.gates.specs.declared.Gate.TheVariants.{X, Z}
+use Rattle.gates.specs.declared.Gate.TheVariants.{Z}
 use Rattle.gates.specs.Gates.{wire, touches}
 use Rattle.gates.specs.Records.{kind_of, is_h}
 use Rattle.rules.specs.Runs.{is_h_on, is_x_on, worth, plus, sum_of, rewrite, by_sum, lone_x, rewrite_of}

@@ -1,7 +1,6 @@
 use mathlib.Core.Path.{ap, ◌∙◌}
 use Prim.Native.Nat.{◌+◌, ◌*◌, ◌<◌}
 use native.Mathlib.Omega.{arith}
-use borrow.Author.Rules.{rules}
 use Rattle.slots.specs.Slots.{found}
 use Rattle.asking.proofs.AskLaws.{node-inside, before-is}
 use Rattle.asking.proofs.before_on.Goals as goal

@@ -1,13 +1,11 @@
 use mathlib.Core.Path.{◌≡◌, refl, ap, ◌∙◌}
-use Prim.Native.Nat.{◌-◌, ◌≤◌, ◌<◌}
+use Prim.Native.Nat.{◌<◌}
 use native.Mathlib.Omega.{arith}
 use lib.ListN.{length}
-use borrow.Author.Rules.{rules}
 use Rattle.gates.specs.Gates.{wires_of}
 use Rattle.slots.specs.Slots.{gate_at}
-use Rattle.slots.specs.Live.{is_live}
 use Rattle.slots.proofs.StateLaws.{live_below}
-use Rattle.asking.proofs.BlockerLaws.{latest_on, on_none, on-more, on-all, read_known, read-wires}
+use Rattle.asking.proofs.BlockerLaws.{on_none, on-more, on-all, read_known, read-wires}
 use Rattle.asking.proofs.blocker.Goals as goal
 
 pub overflow_cast-slot : goal.overflow_cast-slot

@@ -1,13 +1,9 @@
-use mathlib.Core.Path.{◌≡◌, refl, ap, ◌∙◌}
-use Prim.Native.Nat.{◌-◌, ◌≤◌, ◌<◌}
-use native.Mathlib.Omega.{arith}
-use lib.ListN.{length}
-use borrow.Author.Rules.{rules}
+use mathlib.Core.Path.{◌≡◌}
+use Prim.Native.Nat.{◌-◌, ◌≤◌}
 use Rattle.gates.specs.Gates.{wires_of}
 use Rattle.slots.specs.Slots.{gate_at}
 use Rattle.slots.specs.Live.{is_live}
-use Rattle.slots.proofs.StateLaws.{live_below}
-use Rattle.asking.proofs.BlockerLaws.{latest_on, on_none, on-more, on-all, read_known, read-wires}
+use Rattle.asking.proofs.BlockerLaws.{latest_on}
 use Rattle.asking.proofs.blocker.Given as goal
 
 abbrev pub invariant-loop-op : goal.invariant-loop-op

@@ -1,12 +1,7 @@
-use mathlib.Core.Path.{◌≡◌, ◌∙◌}
-use Prim.Native.Nat.{◌-◌, ◌≤◌}
+use mathlib.Core.Path.{◌∙◌}
 use native.Mathlib.Omega.{arith}
-use borrow.Author.Rules.{rules}
-use Rattle.gates.specs.Records.{operand_words}
-use Rattle.slots.specs.Slots.{gate_at}
-use Rattle.slots.specs.Live.{is_live}
 use Rattle.slots.proofs.NodeLaws.{IsOperand, operand_at}
-use Rattle.asking.proofs.BlockerLaws.{latest_on, on_none, on-more, on-all, read_known, read_small, read-wires}
+use Rattle.asking.proofs.BlockerLaws.{on_none, on-more, on-all, read_known, read_small, read-wires}
 use Rattle.asking.proofs.blocker_of_next.Goals as goal
 
 pub operand_count-count-requires : goal.operand_count-count-requires

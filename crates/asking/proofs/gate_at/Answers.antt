@@ -1,4 +1,3 @@
-use borrow.Author.Rules.{rules}
 use Rattle.gates.specs.declared.records.Decoded.{Decoded}
 use Rattle.asking.proofs.AskLaws.{gate-read}
 use Rattle.asking.proofs.gate_at.Goals as goal

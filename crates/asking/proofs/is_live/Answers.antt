@@ -1,5 +1,4 @@
 use mathlib.Core.Path.{sym, ◌∙◌}
-use borrow.Author.Rules.{rules}
 use Rattle.slots.proofs.StateLaws.{live-is}
 use Rattle.asking.proofs.is_live.Goals as goal
 

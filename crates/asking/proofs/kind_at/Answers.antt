@@ -1,4 +1,3 @@
-use borrow.Author.Rules.{rules}
 use Rattle.asking.proofs.AskLaws.{kind-read}
 use Rattle.asking.proofs.kind_at.Goals as goal
 

@@ -1,5 +1,4 @@
 use mathlib.Core.Path.{ap, ◌∙◌}
-use borrow.Author.Rules.{rules}
 use Rattle.slots.specs.Slots.{found}
 use Rattle.asking.proofs.AskLaws.{last-is}
 use Rattle.asking.proofs.last_on.Goals as goal

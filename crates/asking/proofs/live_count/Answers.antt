@@ -1,6 +1,5 @@
 use mathlib.Core.Path.{sym, ◌∙◌}
 use native.Mathlib.Omega.{arith}
-use borrow.Author.Rules.{rules}
 use Rattle.asking.proofs.AskLaws.{count-is, held_none}
 use Rattle.asking.proofs.live_count.Goals as goal
 

@@ -1,7 +1,6 @@
 use Prim.Native.Nat.{◌+◌, ◌<◌}
 use native.Mathlib.Omega.{arith}
 use lib.ListN.{length}
-use borrow.Author.Rules.{rules}
 use Rattle.slots.specs.Live.{pairs_at}
 use Rattle.slots.proofs.StateLaws.{live_below, room-enough}
 use Rattle.asking.proofs.AskLaws.{partner-none, partner-some}

@@ -1,6 +1,5 @@
 use mathlib.Core.Path.{◌∙◌}
 use native.Mathlib.Omega.{arith}
-use borrow.Author.Rules.{rules}
 use Rattle.asking.proofs.AskLaws.{position-is}
 use Rattle.asking.proofs.position.Goals as goal
 

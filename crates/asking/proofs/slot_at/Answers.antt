@@ -1,4 +1,3 @@
-use borrow.Author.Rules.{rules}
 use Rattle.ranks.specs.Ranks.{Ranks}
 use Rattle.slots.specs.Live.{ranks_at}
 use Rattle.slots.proofs.StateLaws.{mark-live}

@@ -1,5 +1,4 @@
 use mathlib.Core.Path.{◌∙◌}
-use borrow.Author.Rules.{rules}
 use Rattle.asking.proofs.AskLaws.{wire-read}
 use Rattle.asking.proofs.wire_at.Goals as goal
 

@@ -1,9 +1,7 @@
-use Prim.Native.Nat.{◌-◌, ◌/◌, ◌≤◌}
-use mathlib.Core.Path.{◌≡◌, sym, ◌∙◌}
-use native.Mathlib.Nat.{sub-zero}
+use Prim.Native.Nat.{◌/◌}
+use mathlib.Core.Path.{sym, ◌∙◌}
 use native.Mathlib.Omega.{arith}
 use lib.ListN.{length}
-use Rattle.intake.specs.Tests.{first_failing, records_tests, list_tests}
 use Rattle.intake.proofs.TestLaws.{record-accepted, record-refused, records-end}
 use Rattle.intake.proofs.test_records.Goals as goal
 

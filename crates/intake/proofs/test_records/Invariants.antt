@@ -1,10 +1,6 @@
-use Prim.Native.Nat.{◌-◌, ◌/◌, ◌≤◌}
-use mathlib.Core.Path.{◌≡◌, sym, ◌∙◌}
-use native.Mathlib.Nat.{sub-zero}
-use native.Mathlib.Omega.{arith}
-use lib.ListN.{length}
+use Prim.Native.Nat.{◌-◌, ◌≤◌}
+use mathlib.Core.Path.{◌≡◌}
 use Rattle.intake.specs.Tests.{first_failing, records_tests, list_tests}
-use Rattle.intake.proofs.TestLaws.{record-accepted, record-refused, records-end}
 use Rattle.intake.proofs.test_records.Given as goal
 
 abbrev pub invariant-loop-i : goal.invariant-loop-i

@@ -1,7 +1,6 @@
 use mathlib.Core.Path.{◌≡◌}
 use native.Mathlib.Omega.{arith}
 use lib.Dec.{eqb}
-use borrow.Author.Rules.{rules}
 use Rattle.partners.proofs.KeyLaws.{raise-small, either-small, keys-two, keys-ccx, keys-ccz, two-small, ccz-small}
 use Rattle.partners.proofs.keys_of.Goals as goal
 

@@ -1,9 +1,6 @@
-use Prim.Native.Nat.{◌-◌, ◌≤◌}
 use native.Mathlib.Omega.{arith}
-use Rattle.slots.specs.Keeping.{KeepsLoaded}
-use Rattle.partners.specs.Pairs.{ListedTo}
-use Rattle.slots.proofs.StateLaws.{keeps-loaded, keeps-none, keeps_then}
-use Rattle.partners.proofs.ListedLaws.{none-listed, all_listed}
+use Rattle.slots.proofs.StateLaws.{keeps-loaded, keeps-none}
+use Rattle.partners.proofs.ListedLaws.{none-listed}
 use Rattle.partners.proofs.list_pairs.Goals as goal
 
 pub loop-slot-init : goal.loop-slot-init

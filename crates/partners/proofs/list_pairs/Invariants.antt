@@ -1,9 +1,6 @@
 use Prim.Native.Nat.{◌-◌, ◌≤◌}
-use native.Mathlib.Omega.{arith}
 use Rattle.slots.specs.Keeping.{KeepsLoaded}
 use Rattle.partners.specs.Pairs.{ListedTo}
-use Rattle.slots.proofs.StateLaws.{keeps-loaded, keeps-none, keeps_then}
-use Rattle.partners.proofs.ListedLaws.{none-listed, all_listed}
 use Rattle.partners.proofs.list_pairs.Given as goal
 
 abbrev pub invariant-loop-slot : goal.invariant-loop-slot

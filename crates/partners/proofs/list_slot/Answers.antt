@@ -1,5 +1,4 @@
 use mathlib.Core.Path.{sym, ◌∙◌}
-use borrow.Author.Rules.{rules}
 use Rattle.slots.proofs.StateLaws.{live-is, keeps-none}
 use Rattle.partners.proofs.PairTestLaws.{tested-is, keys-ask, keys-are}
 use Rattle.partners.proofs.ListedLaws.{none_more, one_more}

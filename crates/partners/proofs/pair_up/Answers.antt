@@ -1,5 +1,4 @@
 use native.Mathlib.Omega.{arith}
-use borrow.Author.Rules.{rules}
 use Rattle.slots.proofs.StateLaws.{keeps-loaded}
 use Rattle.partners.proofs.PartnerLaws.{pairs-ready, no-partners, partners-left}
 use Rattle.partners.proofs.pair_up.Goals as goal

@@ -6,8 +6,7 @@ use Rattle.gates.specs.declared.Gate.TheVariants.{Ccx}
 use Rattle.gates.specs.Gates.{wires_of, has}
 use Rattle.rules.specs.MayPass.{class_of}
 use Rattle.leaves.proofs.VariantLaws.{after_ccz}
-use Rattle.passing.proofs.PassingLaws.{off-2, off-none-2, none_1, none_2, none-3, diagonal-at, diagonal-1, diagonal-past-ccx, x-past-ccx, cnot-past-ccx, ccx-past-ccx, left-over-past, shares-3}
-use borrow.Author.Rules.{rules}
+use Rattle.passing.proofs.PassingLaws.{off-2, off-none-2, none_1, none_2, none-3, diagonal-at, diagonal-past-ccx, x-past-ccx, cnot-past-ccx, ccx-past-ccx, left-over-past, shares-3}
 use Rattle.passing.proofs.commutes_past_ccx.Goals as goal
 
 pub returns-in-X : goal.returns-in-X

@@ -6,7 +6,6 @@ use Rattle.gates.specs.Gates.{wires_of, has}
 use Rattle.rules.specs.MayPass.{class_of}
 use Rattle.leaves.proofs.VariantLaws.{after_ccz}
 use Rattle.passing.proofs.PassingLaws.{off-3, diagonal_on_one, diagonal_on_more, diagonal-at, diagonal-past-diagonal, cnot-past-diagonal, ccx-past-diagonal, left-over-past, shares-3}
-use borrow.Author.Rules.{rules}
 use borrow.Enum.Refused
 use Rattle.passing.proofs.commutes_past_ccz.Goals as goal
 

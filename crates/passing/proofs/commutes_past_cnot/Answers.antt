@@ -6,8 +6,7 @@ use Rattle.gates.specs.declared.Gate.TheVariants.{Cnot}
 use Rattle.gates.specs.Gates.{wires_of, has}
 use Rattle.rules.specs.MayPass.{class_of}
 use Rattle.leaves.proofs.VariantLaws.{after_ccz}
-use Rattle.passing.proofs.PassingLaws.{off-1, none_1, none_2, none-3, diagonal-at, diagonal-1, diagonal-past-cnot, x-past-cnot, cnot-past-cnot, left-over-past, shares-2}
-use borrow.Author.Rules.{rules}
+use Rattle.passing.proofs.PassingLaws.{off-1, none_1, none_2, none-3, diagonal-at, diagonal-past-cnot, x-past-cnot, cnot-past-cnot, left-over-past, shares-2}
 use borrow.Enum.Refused
 use Rattle.passing.proofs.commutes_past_cnot.Goals as goal
 

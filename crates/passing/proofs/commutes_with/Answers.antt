@@ -1,5 +1,4 @@
 use Rattle.leaves.specs.Answers.{as_gate}
-use borrow.Author.Rules.{rules}
 use Rattle.passing.proofs.commutes_with.Goals as goal
 
 pub returns-in-Cnot : goal.returns-in-Cnot

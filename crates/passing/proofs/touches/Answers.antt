@@ -1,8 +1,7 @@
-use mathlib.Core.Path.{ap, refl}
+use mathlib.Core.Path.{ap}
 use mathlib.Core.Logic.{⊎_elim}
 use Rattle.gates.specs.Gates.{wires_of}
 use Rattle.passing.proofs.PassingLaws.{touch-1, touch-2, touch-3}
-use borrow.Author.Rules.{rules}
 use Rattle.passing.proofs.touches.Goals as goal
 
 pub returns-in-Measure : goal.returns-in-Measure

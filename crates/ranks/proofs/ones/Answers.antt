@@ -1,7 +1,5 @@
 use mathlib.Core.Path.{ap, ◌∙◌}
 use Prim.Native.Nat.{ℕ, ◌%◌}
-use native.Mathlib.Omega.{arith}
-use lib.Pow.{pow_pos}
 use lib.Count.{ones}
 use Rattle.ranks.proofs.BitLaws.{one_shifted, ones_below}
 use Rattle.ranks.proofs.ones.Goals as goal

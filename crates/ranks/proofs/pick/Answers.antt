@@ -1,7 +1,7 @@
-use mathlib.Core.Path.{◌≡◌, sym, ap, ◌∙◌}
-use Prim.Native.Nat.{ℕ, ◌+◌, ◌-◌, ◌/◌, ◌%◌, ◌^◌, ◌≤◌}
+use mathlib.Core.Path.{sym, ap, ◌∙◌}
+use Prim.Native.Nat.{ℕ, ◌/◌, ◌%◌}
 use native.Mathlib.Omega.{arith}
-use Rattle.ranks.specs.Ranks.{bit, below}
+use Rattle.ranks.specs.Ranks.{bit}
 use Rattle.ranks.proofs.BitLaws.{shift_none, shift-next}
 use Rattle.ranks.proofs.SumLaws.{below_none, below_next}
 use Rattle.ranks.proofs.pick.Goals as goal

@@ -1,9 +1,6 @@
-use mathlib.Core.Path.{◌≡◌, sym, ap, ◌∙◌}
-use Prim.Native.Nat.{ℕ, ◌+◌, ◌-◌, ◌/◌, ◌%◌, ◌^◌, ◌≤◌}
-use native.Mathlib.Omega.{arith}
+use mathlib.Core.Path.{◌≡◌}
+use Prim.Native.Nat.{◌+◌, ◌-◌, ◌/◌, ◌^◌, ◌≤◌}
 use Rattle.ranks.specs.Ranks.{bit, below}
-use Rattle.ranks.proofs.BitLaws.{shift_none, shift-next}
-use Rattle.ranks.proofs.SumLaws.{below_none, below_next}
 use Rattle.ranks.proofs.pick.Given as goal
 
 abbrev pub invariant-loop-i : goal.invariant-loop-i

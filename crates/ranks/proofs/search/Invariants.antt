@@ -1,9 +1,7 @@
 use mathlib.Core.Path.{◌≡◌}
 use Prim.Native.Nat.{◌+◌, ◌-◌, ◌≤◌}
-use native.Mathlib.Omega.{arith}
 use Rattle.links.specs.Words.{word}
 use Rattle.ranks.specs.Ranks.{below}
-use Rattle.ranks.proofs.SumLaws.{below_next}
 use Rattle.ranks.proofs.search.Given as goal
 
 abbrev pub invariant-loop-i : goal.invariant-loop-i

@@ -1,8 +1,6 @@
-use mathlib.Core.Path.{◌≡◌, ap, ◌∙◌}
-use Prim.Native.Nat.{◌+◌, ◌-◌, ◌≤◌}
+use Prim.Native.Nat.{◌+◌}
 use native.Mathlib.Omega.{arith}
 use Rattle.links.specs.Words.{word}
-use Rattle.ranks.specs.Ranks.{below}
 use Rattle.ranks.proofs.SumLaws.{below-mono, below_next}
 use Rattle.ranks.proofs.sum.Goals as goal
 

@@ -1,9 +1,8 @@
 use mathlib.Core.Path.{sym, ◌∙◌}
 use Prim.Native.Nat.{◌-◌}
 use native.Mathlib.Omega.{arith}
-use lib.ListN.{length-set}
 use Rattle.ranks.proofs.BitLaws.{bit-off, bit-rests}
-use Rattle.ranks.proofs.RegionLaws.{mark-in, inside}
+use Rattle.ranks.proofs.RegionLaws.{mark-in}
 use Rattle.ranks.proofs.MarkLaws.{room32, room1024, room32768, marked}
 use Rattle.ranks.proofs.take_out.Goals as goal
 

@@ -1,5 +1,3 @@
-use mathlib.Core.Path.{ap}
-use Prim.Native.Nat.{ℕ, ◌+◌}
 use native.Mathlib.Omega.{arith}
 use Rattle.ranks.proofs.BitLaws.{one_shifted, bit-fits}
 use Rattle.ranks.proofs.with_bit.Goals as goal

@@ -7,7 +7,6 @@ use Rattle.gates.specs.Records.{record_of}
 use Rattle.leaves.specs.Answers.{pair_of}
 use Rattle.leaves.proofs.PairLaws.{PairFor, paired, ccx-paired, pair_is}
 use Rattle.leaves.proofs.VariantLaws.{kind-among}
-use borrow.Author.Rules.{rules}
 use borrow.Enum.Refused
 use Rattle.leaves.proofs.pairs.pair_of.Goals as goal
 

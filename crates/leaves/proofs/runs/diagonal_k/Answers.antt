@@ -4,7 +4,6 @@ use Rattle.gates.specs.Gates.{wires_of}
 use Rattle.rules.specs.Runs.{worth}
 use Rattle.leaves.proofs.VariantLaws.{after_ccz}
 use Rattle.leaves.proofs.RunLaws.{not-in-run}
-use borrow.Author.Rules.{rules}
 use borrow.Enum.Refused
 use Rattle.leaves.proofs.runs.diagonal_k.Goals as goal
 

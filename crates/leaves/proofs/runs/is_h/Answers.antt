@@ -4,7 +4,6 @@ use Rattle.gates.specs.Gates.{wires_of}
 use Rattle.gates.specs.Records.{record_of}
 use Rattle.leaves.proofs.VariantLaws.{after_ccz}
 use Rattle.leaves.proofs.RunLaws.{of-kind-on, of-other-kind}
-use borrow.Author.Rules.{rules}
 use borrow.Enum.Refused
 use Rattle.leaves.proofs.runs.is_h.Goals as goal
 

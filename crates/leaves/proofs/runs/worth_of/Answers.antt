@@ -1,7 +1,5 @@
 use Prim.Native.Nat.{◌≤◌}
-use native.Mathlib.Omega.{arith}
 use lib.Dec.{leb}
-use borrow.Author.Rules.{rules}
 use borrow.Author.Tests.{leb-true}
 use Rattle.gates.proofs.Joined.{and_left, and_right}
 use Rattle.leaves.proofs.RunLaws.{digit-is, no_digit}

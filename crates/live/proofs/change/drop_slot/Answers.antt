@@ -1,6 +1,5 @@
 use Prim.Native.Nat.{◌≤◌, ◌<◌}
 use native.Mathlib.Omega.{arith}
-use borrow.Author.Rules.{rules}
 use Rattle.slots.proofs.StateLaws.{live_below}
 use Rattle.asking.proofs.BlockerLaws.{read_known}
 use Rattle.live.proofs.DroppedLaws.{drop-can, unpair-can, take-can, dropped}

@@ -1,6 +1,5 @@
 use mathlib.Core.Path.{refl}
 use native.Mathlib.Omega.{arith}
-use borrow.Author.Rules.{rules}
 use Rattle.slots.proofs.StateLaws.{live_below}
 use Rattle.live.proofs.RewriteLaws.{rewrite-live, rewrite-held}
 use Rattle.live.proofs.change.rewrite.Goals as goal

@@ -1,5 +1,4 @@
 use mathlib.Core.Path.{refl, sym, ◌∙◌}
-use borrow.Author.Rules.{rules}
 use Rattle.partners.proofs.PairTestLaws.{between_is}
 use Rattle.live.proofs.change.unpair.Goals as goal
 

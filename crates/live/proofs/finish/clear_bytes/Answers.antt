@@ -1,8 +1,5 @@
-use borrow.Author.Rules.{rules}
-use Prim.Native.Nat.{◌-◌, ◌≤◌}
 use native.Mathlib.Omega.{arith}
-use Rattle.links.specs.Words.{Cleared}
-use Rattle.links.proofs.WordLaws.{cleared-none, cleared_more, cleared-all}
+use Rattle.links.proofs.WordLaws.{cleared-all}
 use Rattle.live.proofs.FinishLaws.{cleared-zeroed}
 use Rattle.live.proofs.finish.clear_bytes.Goals as goal
 

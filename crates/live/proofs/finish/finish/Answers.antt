@@ -1,7 +1,6 @@
 use mathlib.Core.Path.{◌∙◌}
-use Prim.Native.Nat.{◌-◌}
 use native.Mathlib.Omega.{arith}
-use Rattle.live.proofs.FinishLaws.{Moved, moved_none, moved-next, moved-count, moved-left, cleared-zeroed}
+use Rattle.live.proofs.FinishLaws.{moved-next, moved-count, moved-left, cleared-zeroed}
 use Rattle.live.proofs.finish.finish.Goals as goal
 
 pub loop-slot-preserved : goal.loop-slot-preserved

@@ -1,7 +1,5 @@
-use mathlib.Core.Path.{◌∙◌}
 use Prim.Native.Nat.{◌-◌}
-use native.Mathlib.Omega.{arith}
-use Rattle.live.proofs.FinishLaws.{Moved, moved_none, moved-next, moved-count, moved-left, cleared-zeroed}
+use Rattle.live.proofs.FinishLaws.{Moved}
 use Rattle.live.proofs.finish.finish.Given as goal
 
 abbrev pub invariant-loop-slot : goal.invariant-loop-slot

@@ -2,7 +2,6 @@ use mathlib.Core.Path.{refl, sym, ap, ◌∙◌}
 use Prim.Native.Nat.{◌*◌}
 use native.Mathlib.Omega.{arith}
 use lib.Seq.{sets}
-use borrow.Author.Rules.{rules}
 use Rattle.gates.specs.declared.records.Record.{Record}
 use Rattle.gates.specs.Records.{record_bytes}
 use Rattle.slots.proofs.StateLaws.{live-is}

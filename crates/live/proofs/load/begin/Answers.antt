@@ -1,4 +1,3 @@
-use borrow.Author.Rules.{rules}
 use Rattle.live.proofs.LoadCodeLaws.{begin-some, begin-none}
 use Rattle.live.proofs.load.begin.Goals as goal
 

@@ -1,7 +1,6 @@
 use mathlib.Core.Path.{◌≡◌, sym, ◌∙◌}
 use mathlib.Core.Bool.{true}
 use native.Mathlib.Omega.{arith}
-use borrow.Author.Rules.{rules}
 use Rattle.links.proofs.WordLaws.{within_none}
 use Rattle.slots.specs.Live.{is_live}
 use Rattle.slots.proofs.StateLaws.{live-is}

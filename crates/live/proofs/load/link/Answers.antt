@@ -1,4 +1,3 @@
-use borrow.Author.Rules.{rules}
 use Rattle.slots.proofs.StateLaws.{keeps-loaded}
 use Rattle.live.proofs.LoadCodeLaws.{linked}
 use Rattle.live.proofs.load.link.Goals as goal

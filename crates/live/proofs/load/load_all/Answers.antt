@@ -1,9 +1,5 @@
-use mathlib.Core.Path.{◌∙◌}
-use Prim.Native.Nat.{◌-◌}
 use native.Mathlib.Omega.{arith}
-use borrow.Author.Rules.{rules}
-use Rattle.links.proofs.WordLaws.{within-then}
-use Rattle.live.proofs.TrialLaws.{LoadedTo, loaded-none, next_past, loaded-more, loaded-all}
+use Rattle.live.proofs.TrialLaws.{loaded-none, next_past, loaded-more}
 use Rattle.live.proofs.load.load_all.Goals as goal
 
 pub loop-i-init : goal.loop-i-init

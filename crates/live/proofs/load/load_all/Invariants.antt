@@ -1,9 +1,5 @@
-use mathlib.Core.Path.{◌∙◌}
 use Prim.Native.Nat.{◌-◌}
-use native.Mathlib.Omega.{arith}
-use borrow.Author.Rules.{rules}
-use Rattle.links.proofs.WordLaws.{within-then}
-use Rattle.live.proofs.TrialLaws.{LoadedTo, loaded-none, next_past, loaded-more, loaded-all}
+use Rattle.live.proofs.TrialLaws.{LoadedTo}
 use Rattle.live.proofs.load.load_all.Given as goal
 
 -- `work₀` is what `begin` left: its own change of the words is added at the end.

@@ -1,6 +1,5 @@
 use Prim.Native.Nat.{◌<◌}
 use native.Mathlib.Omega.{arith}
-use borrow.Author.Rules.{rules}
 use Rattle.slots.proofs.StateLaws.{live_below}
 use Rattle.live.proofs.LoadCodeLaws.{in-room, pop-marked, popped}
 use Rattle.live.proofs.load.pop.Goals as goal

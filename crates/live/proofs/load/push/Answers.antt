@@ -1,5 +1,4 @@
 use native.Mathlib.Omega.{arith}
-use borrow.Author.Rules.{rules}
 use Rattle.live.proofs.FinishLaws.{padding-small}
 use Rattle.live.proofs.LoadCodeLaws.{in-room, push-free, pushed}
 use Rattle.live.proofs.load.push.Goals as goal

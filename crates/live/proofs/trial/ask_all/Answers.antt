@@ -1,7 +1,5 @@
 use mathlib.Core.Path.{◌≡◌, sym, ◌∙◌}
-use mathlib.Core.Logic.{⊎_elim}
 use native.Mathlib.Omega.{arith}
-use borrow.Author.Rules.{rules}
 use Rattle.slots.proofs.StateLaws.{live_below}
 use Rattle.live.proofs.TrialLaws.{has-wire, first_small, pair_read, partner_if, partner-asked, partner-none, answers-are}
 use Rattle.live.proofs.trial.ask_all.Goals as goal

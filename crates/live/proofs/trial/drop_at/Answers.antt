@@ -1,7 +1,5 @@
 use mathlib.Core.Path.{refl}
-use mathlib.Core.Logic.{⊎_elim}
 use native.Mathlib.Omega.{arith}
-use borrow.Author.Rules.{rules}
 use Rattle.links.proofs.WordLaws.{within_none}
 use Rattle.slots.proofs.StateLaws.{links-in-room}
 use Rattle.live.proofs.TrialLaws.{SameList, same_bytes, own-known, own-asked, own-rewritten, dropped-none, same-dropped}

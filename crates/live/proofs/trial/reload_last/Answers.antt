@@ -1,6 +1,5 @@
 use Prim.Native.Nat.{◌-◌, ◌<◌}
 use native.Mathlib.Omega.{arith}
-use borrow.Author.Rules.{rules}
 use Rattle.live.proofs.TrialLaws.{LoadedTo, next_past, loaded-more, last-live, last-alone, loaded-less, loaded-all}
 use Rattle.live.proofs.trial.reload_last.Goals as goal
 

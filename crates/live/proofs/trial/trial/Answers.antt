@@ -1,11 +1,9 @@
 use mathlib.Core.Path.{sym, ◌∙◌}
-use mathlib.Core.Logic.{⊎_elim}
 use lib.ListN.{length}
-use borrow.Author.Rules.{rules}
 use Rattle.intake.specs.declared.JournalRoom.{JournalRoom}
 use Rattle.live.specs.Trial.{extent_of}
 use Rattle.live.proofs.TrialLaws.{LoadedTo}
-use Rattle.live.proofs.TriedLaws.{IsAccepted, accepted-fits, accepted-sound, loaded-whole, loaded-named, loaded-again, left-refused, left-accepted}
+use Rattle.live.proofs.TriedLaws.{IsAccepted, accepted-fits, accepted-sound, loaded-whole, loaded-named, loaded-again, left-accepted}
 use Rattle.live.proofs.trial.trial.Goals as goal
 use Rattle.live.proofs.trial.trial.Goals.{then-k-gt0, else-k-gt0}
 

@@ -1,7 +1,6 @@
 use mathlib.Core.Path.{refl}
 use Rattle.passing.specs.Quick.{passes_by}
 use Rattle.passing.proofs.QuickLaws.{phase-passes, below-blocked, above-blocked}
-use borrow.Author.Rules.{rules}
 use Rattle.passing.proofs.quick.may_pass.Goals as goal
 
 pub returns-in-8 : goal.returns-in-8

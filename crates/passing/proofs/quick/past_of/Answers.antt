@@ -1,6 +1,5 @@
 use mathlib.Core.Path.{sym, ap}
 use Rattle.passing.specs.Quick.{past_of}
-use borrow.Author.Rules.{rules}
 use Rattle.passing.proofs.quick.past_of.Goals as goal
 
 pub returns-in-Cnot : goal.returns-in-Cnot

@@ -1,7 +1,5 @@
 use Prim.Native.Nat.{◌-◌, ◌≤◌}
-use native.Mathlib.Omega.{arith}
-use borrow.Author.Rules.{rules}
-use Rattle.slots.proofs.NodeLaws.{ClosedFirst, closed_none, closed-more, closed_all}
+use Rattle.slots.proofs.NodeLaws.{ClosedFirst}
 use Rattle.slots.proofs.nodes.close_ends.Given as goal
 
 abbrev pub invariant-loop-w : goal.invariant-loop-w

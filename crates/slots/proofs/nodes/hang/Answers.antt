@@ -2,7 +2,6 @@ use mathlib.Core.Path.{◌≡◌, ◌∙◌}
 use Prim.Native.Nat.{◌+◌, ◌*◌}
 use native.Mathlib.Omega.{arith}
 use lib.ListN.{length}
-use borrow.Author.Rules.{rules}
 use Rattle.slots.proofs.NodeLaws.{Counted, counted}
 use Rattle.slots.proofs.NodeHangLaws.{head_of, second_head, third-head, Heads, heads-in, hangs-as}
 use Rattle.slots.proofs.nodes.hang.Goals as goal

@@ -1,4 +1,3 @@
-use borrow.Author.Rules.{rules}
 use Rattle.slots.proofs.NodeLaws.{operands-counted}
 use Rattle.slots.proofs.nodes.operand_count.Goals as goal
 

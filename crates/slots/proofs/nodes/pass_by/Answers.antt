@@ -1,6 +1,5 @@
-use Prim.Native.Nat.{◌-◌, ◌≤◌}
 use native.Mathlib.Omega.{arith}
-use Rattle.slots.proofs.NodeLaws.{Passed, passed_none, passed-next, passed-more, passed-all}
+use Rattle.slots.proofs.NodeLaws.{passed-next, passed-more, passed-all}
 use Rattle.slots.proofs.nodes.pass_by.Goals as goal
 
 pub unlink-requires : goal.unlink-requires

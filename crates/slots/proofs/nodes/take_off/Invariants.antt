@@ -1,9 +1,6 @@
-use mathlib.Core.Path.{refl}
 use Prim.Native.Nat.{◌*◌, ◌-◌, ◌≤◌}
-use native.Mathlib.Omega.{arith}
-use borrow.Author.Rules.{rules}
 use Rattle.gates.specs.Records.{operand_words}
-use Rattle.slots.proofs.NodeLaws.{IsOperand, operand_at, Taken, taken_none, taken_more, taken-all}
+use Rattle.slots.proofs.NodeLaws.{Taken}
 use Rattle.slots.proofs.nodes.take_off.Given as goal
 
 abbrev pub invariant-loop-op : goal.invariant-loop-op
