@@ -1,5 +1,4 @@
 use Prim.Native.Nat.{◌*◌}
-use borrow.Author.Rules.{rules}
 use Rattle.gates.proofs.WordLaws.{four-words}
 use Rattle.rules.specs.Journal.{step_bytes}
 use Rattle.journal.proofs.put_step.Goals as goal

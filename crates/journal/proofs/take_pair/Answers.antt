@@ -2,7 +2,6 @@ use mathlib.Core.Path.{ap₂, ◌∙◌}
 use Prim.Native.Nat.{◌*◌}
 use native.Mathlib.Omega.{arith}
 use lib.Seq.{sets}
-use borrow.Author.Rules.{rules}
 use Rattle.rules.specs.Steps.{step}
 use Rattle.rules.specs.Journal.{step_bytes}
 use Rattle.links.proofs.WordLaws.{within-then}

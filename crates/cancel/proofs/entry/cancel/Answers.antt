@@ -2,13 +2,12 @@ use mathlib.Core.Path.{◌≡◌, sym, ◌∙◌}
 use mathlib.Core.List.{[]}
 use native.Mathlib.Omega.{arith}
 use lib.ListN.{length}
-use borrow.Author.Rules.{rules}
 use Rattle.intake.specs.declared.JournalRoom.{JournalRoom}
 use Rattle.intake.specs.declared.Tested.{Tested}
 use Rattle.links.proofs.WordLaws.{within-then}
 use Rattle.live.proofs.TriedLaws.{accepted-fits, accepted-sound}
 use Rattle.cancel.specs.Cancelling.{tests_of}
-use Rattle.cancel.proofs.EntryLaws.{refused-leaves, first-room, rest-room, rest-looks, did-named, pass-did, pass-looked, steps-fit, journal-fits, accepted-leaves}
+use Rattle.cancel.proofs.EntryLaws.{first-room, rest-room, rest-looks, did-named, pass-did, pass-looked, steps-fit, journal-fits, accepted-leaves}
 use Rattle.cancel.proofs.entry.cancel.Goals as goal
 
 pub load_pairs-loaded-requires : goal.load_pairs-loaded-requires

@@ -1,7 +1,6 @@
 use mathlib.Core.Path.{◌≡◌, refl, sym, ap}
 use Prim.Native.Nat.{ℕ, zero, suc, ◌<◌}
 use native.Mathlib.Omega.{arith}
-use borrow.Author.Rules.{rules}
 use Rattle.links.proofs.WordLaws.{within_none}
 use Rattle.journal.proofs.SweepingLaws.{did_none}
 use Rattle.cancel.proofs.EmptyLaws.{rounds-nothing}

@@ -1,6 +1,5 @@
 use mathlib.Core.Path.{◌∙◌}
 use mathlib.Core.List.{[]}
-use borrow.Author.Rules.{rules}
 use Rattle.links.proofs.WordLaws.{within-then}
 use Rattle.cancel.proofs.RoundLaws.{first_fits, second_fits, second-looks, third-fits, round-did, round-looked}
 use Rattle.cancel.proofs.rounds.one_round.Goals as goal

@@ -1,13 +1,9 @@
-use mathlib.Core.Path.{refl, ap, ◌∙◌}
-use Prim.Native.Nat.{◌+◌}
-use native.Mathlib.Omega.{arith}
 use Rattle.rules.specs.Equal.{seven}
 use Rattle.rules.specs.Sweeps.{commuting_sweep}
 use Rattle.rules.specs.Loop.{size}
 use Rattle.rules.proofs.Replays.{commuting-replays}
 use Rattle.slots.specs.Live.{held}
-use Rattle.journal.proofs.WentLaws.{went-long}
-use Rattle.cancel.proofs.AgainLaws.{held-is, SoFar, so-far-none, next_fits, next-looks, kept-so-far, one_more, smaller, all_done, all-looked, journal-long}
+use Rattle.cancel.proofs.AgainLaws.{SoFar}
 use Rattle.cancel.proofs.rounds.repeat_commuting.Given as goal
 
 abbrev pub invariant-loop-s : goal.invariant-loop-s

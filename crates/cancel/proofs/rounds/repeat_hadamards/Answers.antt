@@ -1,11 +1,7 @@
-use mathlib.Core.Path.{refl, ◌∙◌}
+use mathlib.Core.Path.{refl}
 use Rattle.rules.specs.Equal.{seven}
-use Rattle.rules.specs.Sweeps.{hadamard_sweep}
-use Rattle.rules.specs.Loop.{size}
 use Rattle.rules.proofs.Replays.{hadamard-replays}
-use Rattle.slots.specs.Live.{held}
-use Rattle.journal.proofs.WentLaws.{went-long}
-use Rattle.cancel.proofs.AgainLaws.{held-is, Somehow, so-far-none, next_fits, kept-so-far, one_more, smaller, all_done, journal-long}
+use Rattle.cancel.proofs.AgainLaws.{held-is, so-far-none, next_fits, kept-so-far, one_more, smaller, all_done}
 use Rattle.cancel.proofs.rounds.repeat_hadamards.Goals as goal
 
 pub loop-s-init : goal.loop-s-init

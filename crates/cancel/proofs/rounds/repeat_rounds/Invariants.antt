@@ -1,12 +1,8 @@
-use mathlib.Core.Path.{ap, ◌∙◌}
-use Prim.Native.Nat.{◌+◌}
-use native.Mathlib.Omega.{arith}
 use Rattle.rules.specs.Equal.{seven}
 use Rattle.rules.specs.Loop.{size, round}
 use Rattle.rules.proofs.Replays.{round-replays}
 use Rattle.slots.specs.Live.{held}
-use Rattle.journal.proofs.WentLaws.{went-long}
-use Rattle.cancel.proofs.AgainLaws.{held-is, SoFar, so-far-none, next_fits, next-looks, kept-so-far, one_more, smaller, all_done, all-looked, journal-long}
+use Rattle.cancel.proofs.AgainLaws.{SoFar}
 use Rattle.cancel.proofs.rounds.repeat_rounds.Given as goal
 
 abbrev pub invariant-loop-s : goal.invariant-loop-s

@@ -1,7 +1,6 @@
 use mathlib.Core.Path.{sym, ap, ◌∙◌}
 use mathlib.Core.List.{[], ◌∷◌}
 use native.Mathlib.Omega.{arith}
-use borrow.Author.Rules.{rules}
 use Rattle.gates.specs.Gates.{has}
 use Rattle.links.proofs.WordLaws.{within_none}
 use Rattle.slots.proofs.StateLaws.{reads-gate}

@@ -1,7 +1,4 @@
-use Prim.Native.Nat.{◌-◌}
-use native.Mathlib.Omega.{arith}
-use Rattle.journal.proofs.WentLaws.{went-long}
-use Rattle.commuting.proofs.SweptLaws.{SweptTo, swept_none, swept-fits, swept-looks, swept-more, swept_all, swept-counted}
+use Rattle.commuting.proofs.SweptLaws.{swept_none, swept-more, swept_all, swept-counted}
 use Rattle.commuting.proofs.sweep.cancel_commuting_pairs.Goals as goal
 
 pub loop-i-init : goal.loop-i-init

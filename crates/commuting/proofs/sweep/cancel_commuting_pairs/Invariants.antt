@@ -1,7 +1,5 @@
 use Prim.Native.Nat.{◌-◌}
-use native.Mathlib.Omega.{arith}
-use Rattle.journal.proofs.WentLaws.{went-long}
-use Rattle.commuting.proofs.SweptLaws.{SweptTo, swept_none, swept-fits, swept-looks, swept-more, swept_all, swept-counted}
+use Rattle.commuting.proofs.SweptLaws.{SweptTo}
 use Rattle.commuting.proofs.sweep.cancel_commuting_pairs.Given as goal
 
 abbrev pub invariant-loop-i : goal.invariant-loop-i

@@ -1,7 +1,6 @@
 use mathlib.Core.Path.{sym, ap, ◌∙◌}
 use mathlib.Core.Bool.{false≢true}
 use native.Mathlib.Omega.{arith}
-use borrow.Author.Rules.{rules}
 use Rattle.leaves.specs.Answers.{pair_of}
 use Rattle.links.proofs.WordLaws.{within_none}
 use Rattle.slots.proofs.StateLaws.{live_below, links-in-room}

@@ -1,8 +1,6 @@
 use mathlib.Core.Path.{sym, ap, ◌∙◌}
-use native.Mathlib.Omega.{arith}
 use Rattle.passing.specs.Quick.{passes_by}
 use Rattle.commuting.proofs.NodeLaws.{look-partner, look-passed, look-blocked}
-use borrow.Author.Rules.{rules}
 use Rattle.commuting.proofs.walk.look.Goals as goal
 
 pub returns-then-slot-partner : goal.returns-then-slot-partner

@@ -1,8 +1,5 @@
 use mathlib.Core.Path.{sym}
-use Prim.Native.Nat.{◌+◌, ◌*◌}
-use native.Mathlib.Omega.{arith}
 use Rattle.commuting.proofs.NodeLaws.{node-first, node-second, node-third}
-use borrow.Author.Rules.{rules}
 use Rattle.commuting.proofs.walk.node_after.Goals as goal
 
 pub returns-then-r-wire : goal.returns-then-r-wire

@@ -1,16 +1,14 @@
-use mathlib.Core.Path.{◌≡◌, refl, sym, ap, ◌∙◌}
-use Prim.Native.Nat.{◌+◌, ◌*◌, ◌-◌, ◌≤◌, ◌<◌}
+use mathlib.Core.Path.{refl, sym, ap, ◌∙◌}
+use Prim.Native.Nat.{◌+◌, ◌*◌, ◌≤◌, ◌<◌}
 use native.Mathlib.Omega.{arith}
-use mathlib.Core.Logic.{⊎_elim}
 use lib.ListN.{length}
 use Rattle.leaves.specs.Answers.{as_gate}
 use Rattle.slots.proofs.WireLaws.{at-most-three}
 use Rattle.slots.proofs.StateLaws.{live_below}
-use Rattle.commuting.specs.declared.walk.Ending.{Ending}
 use Rattle.commuting.specs.Walking.{ends_as}
 use Rattle.commuting.proofs.WalkLaws.{Meant, Walking, wires, one_left, room-left, may-look, ended}
 use Rattle.commuting.proofs.StartLaws.{started}
-use Rattle.commuting.proofs.LoopLaws.{For, Leads, Round, round-starts, round-skips, round-reaches, round-passes, round-ends, round-looks, round-blocked}
+use Rattle.commuting.proofs.LoopLaws.{For, round-skips, round-reaches, round-passes, round-ends, round-looks, round-blocked}
 use Rattle.commuting.proofs.walk.walk_past.Goals as goal
 use Rattle.commuting.proofs.walk.walk_past.Goals.{then-node-ne0+in-Partner, then-node-ne0+in-Passed, else-node-ne0}
 

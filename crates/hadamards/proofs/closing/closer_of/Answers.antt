@@ -1,7 +1,3 @@
-use mathlib.Core.Path.{sym, ap}
-use borrow.Author.Rules.{rules}
-use Rattle.slots.specs.Slots.{found}
-use Rattle.hadamards.specs.Closings.{closer_of, as_close}
 use Rattle.hadamards.proofs.ClosingLaws.{closer-if}
 use Rattle.hadamards.proofs.closing.closer_of.Goals as goal
 

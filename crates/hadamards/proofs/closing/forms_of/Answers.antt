@@ -1,8 +1,4 @@
-use mathlib.Core.Path.{sym, ap, ◌∙◌}
-use borrow.Author.Rules.{rules}
-use Rattle.rules.proofs.EqualLaws.{none-not-some}
-use Rattle.hadamards.specs.Closings.{as_close}
-use Rattle.hadamards.proofs.ClosingLaws.{forms-x, forms-0, forms-4, forms-2, forms-6}
+use Rattle.hadamards.proofs.ClosingLaws.{forms-0, forms-4, forms-2, forms-6}
 use Rattle.hadamards.proofs.closing.forms_of.Goals as goal
 
 pub returns-then-sum-eq0 : goal.returns-then-sum-eq0

@@ -2,7 +2,6 @@ use mathlib.Core.Path.{◌≡◌, ap}
 use mathlib.Core.List.{[], ◌∷◌}
 use native.Mathlib.Omega.{arith}
 use lib.ListN.{length}
-use borrow.Author.Rules.{rules}
 use Rattle.gates.specs.Gates.{wires_of}
 use Rattle.slots.specs.Slots.{gate_at}
 use Rattle.hadamards.proofs.ClosingLaws.{h-alone}

@@ -1,14 +1,5 @@
-use mathlib.Core.Path.{◌≡◌, sym, ap, ◌∙◌}
-use mathlib.Core.Option.{some, none}
 use Prim.Native.Nat.{◌-◌}
-use native.Mathlib.Omega.{arith}
-use lib.ListN.{length}
-use borrow.Author.Rules.{rules}
-use Rattle.rules.specs.Runs.{worth}
-use Rattle.leaves.specs.Answers.{eighths_of, worth_by}
-use Rattle.leaves.proofs.RunLaws.{worth-by, worth-small}
-use Rattle.slots.specs.Slots.{gate_at}
-use Rattle.hadamards.proofs.OpensLaws.{NextOn, next-none, next-on, next-reads, Running, first_wire, run-given, run-read, run-starts, run-goes, run-closed, run-broken, run-open}
+use Rattle.hadamards.proofs.OpensLaws.{Running, first_wire}
 use Rattle.hadamards.proofs.closing.run_behind.Given as goal
 
 abbrev pub invariant-loop-j : goal.invariant-loop-j

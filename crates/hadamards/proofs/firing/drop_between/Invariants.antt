@@ -1,14 +1,8 @@
-use mathlib.Core.Path.{◌≡◌}
-use mathlib.Core.Bool.{true}
-use Prim.Native.Nat.{◌<◌}
 use lib.ListN.{length, get_or}
-use native.Mathlib.Omega.{arith}
-use borrow.Author.Rules.{rules}
 use Rattle.gates.specs.Gates.{wires_of}
 use Rattle.slots.specs.Slots.{gate_at}
-use Rattle.slots.specs.Live.{is_live, held}
-use Rattle.slots.proofs.StateLaws.{live_below}
-use Rattle.hadamards.proofs.PlacingLaws.{some-wire, NextOn, Dropping, dropping-none, dropping_keeps, dropping-more, dropping-all, next-on, next-there, next-first, held-less}
+use Rattle.slots.specs.Live.{held}
+use Rattle.hadamards.proofs.PlacingLaws.{Dropping}
 use Rattle.hadamards.proofs.firing.drop_between.Given as goal
 
 abbrev pub invariant-loop-j : goal.invariant-loop-j

@@ -1,7 +1,6 @@
 use mathlib.Core.Path.{sym, ap, ap₂, ◌∙◌}
 use Prim.Native.Nat.{◌*◌}
 use lib.Seq.{sets}
-use borrow.Author.Rules.{rules}
 use Rattle.rules.specs.Runs.{Rewrite}
 use Rattle.rules.specs.Steps.{step}
 use Rattle.rules.specs.Journal.{step_bytes}

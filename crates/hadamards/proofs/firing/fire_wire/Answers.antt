@@ -6,7 +6,7 @@ use borrow.Author.Rules.{rules}
 use Rattle.slots.specs.Live.{spare_at}
 use Rattle.slots.proofs.StateLaws.{room-enough}
 use Rattle.hadamards.specs.Chains.{heads_at}
-use Rattle.hadamards.proofs.WireLaws.{WireTo, wire-none, wire-done, wire-long, wire-more, next-inside, next-allowed, next-room}
+use Rattle.hadamards.proofs.WireLaws.{wire-none, wire-done, wire-long, wire-more, next-inside, next-allowed, next-room}
 use Rattle.hadamards.proofs.firing.fire_wire.Goals as goal
 
 pub loop-link-init : goal.loop-link-init

@@ -1,6 +1,5 @@
 use mathlib.Core.Path.{◌≡◌, refl, ap}
 use lib.ListN.{length}
-use borrow.Author.Rules.{rules}
 use Rattle.gates.specs.Gates.{wires_of}
 use Rattle.gates.specs.Records.{record_at, record_of, kind_of, of_kind}
 use Rattle.links.proofs.WordLaws.{within_none}

@@ -1,5 +1,4 @@
 use mathlib.Core.Path.{refl}
-use borrow.Author.Rules.{rules}
 use Rattle.links.proofs.WordLaws.{within-then}
 use Rattle.hadamards.proofs.PlacingLaws.{some-wire, NextOn}
 use Rattle.hadamards.proofs.BetweenLaws.{gap-asked, dropped-between, put-one-wire, first-one-wire, rest-asked, placed-between, opener-next, opener-alone}

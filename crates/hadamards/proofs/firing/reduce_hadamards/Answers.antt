@@ -1,13 +1,13 @@
-use mathlib.Core.Path.{sym, subst, ◌∙◌}
+use mathlib.Core.Path.{sym, subst}
 use mathlib.Core.List.{List}
-use Prim.Native.Nat.{ℕ, ◌+◌, ◌*◌, ◌-◌, ◌≤◌}
+use Prim.Native.Nat.{ℕ, ◌+◌, ◌*◌, ◌≤◌}
 use native.Mathlib.Omega.{arith}
 use lib.ListN.{length}
 use borrow.Author.Rules.{rules}
 use Rattle.rules.specs.Steps.{Cell}
 use Rattle.rules.specs.Sweeps.{hadamard_sweep}
 use Rattle.slots.proofs.SpareLaws.{spare-held, spare-live}
-use Rattle.hadamards.proofs.SweptLaws.{SweptTo, swept_none, swept-long, swept-room, swept-more, swept_all, noted-in-room}
+use Rattle.hadamards.proofs.SweptLaws.{swept_none, swept-room, swept-more, swept_all, noted-in-room}
 use Rattle.hadamards.proofs.firing.reduce_hadamards.Goals as goal
 
 pub loop-w-init : goal.loop-w-init

@@ -1,12 +1,10 @@
-use Prim.Native.Nat.{◌-◌, ◌≤◌}
 use native.Mathlib.Omega.{arith}
-use borrow.Author.Rules.{rules}
 use Rattle.links.specs.Words.{Within}
 use Rattle.links.proofs.WordLaws.{within-then}
 use Rattle.slots.specs.Live.{spare_at}
 use Rattle.slots.proofs.SpareLaws.{spare-live}
 use Rattle.hadamards.specs.Chains.{notes_for}
-use Rattle.hadamards.proofs.ScanLaws.{ScannedTo, clear-inside, scan-start, scanned-none, scan-end}
+use Rattle.hadamards.proofs.ScanLaws.{scan-start, scanned-none, scan-end}
 use Rattle.hadamards.proofs.noting.scan.Goals as goal
 
 pub loop-i-init : goal.loop-i-init

@@ -1,8 +1,6 @@
 use mathlib.Core.Path.{sym, ◌∙◌}
-use native.Mathlib.Omega.{arith}
-use borrow.Author.Rules.{rules}
 use Rattle.slots.proofs.StateLaws.{live_below}
-use Rattle.hadamards.proofs.ScanLaws.{h-wide, h-room, h-tail-inside, h-tail-small, h-closer-inside, h-tail-within, h-fires, h-idle, h-closed}
+use Rattle.hadamards.proofs.ScanLaws.{h-wide, h-room, h-tail-inside, h-closer-inside, h-tail-within, h-fires, h-idle, h-closed}
 use Rattle.hadamards.proofs.noting.scan_h.Goals as goal
 
 pub bounds-work-tails : goal.bounds-work-tails

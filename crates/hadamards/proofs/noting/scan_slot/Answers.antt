@@ -1,5 +1,4 @@
 use mathlib.Core.Path.{sym, ◌∙◌}
-use borrow.Author.Rules.{rules}
 use Rattle.hadamards.proofs.ScanLaws.{slot-reads, h-first, slot-other, slot-dead}
 use Rattle.hadamards.proofs.noting.scan_slot.Goals as goal
 

@@ -1,6 +1,4 @@
 use mathlib.Core.Path.{refl}
-use native.Mathlib.Omega.{arith}
-use borrow.Author.Rules.{rules}
 use Rattle.pairing.proofs.FirstLaws.{load-went, load-counts, load_past, pop-live, pop-inside, pop-final, pop-room, pop-went, pop-counts}
 use Rattle.pairing.proofs.first.load_gate.Goals as goal
 

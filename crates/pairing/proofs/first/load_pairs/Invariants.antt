@@ -1,10 +1,5 @@
-use mathlib.Core.Path.{◌∙◌}
 use Prim.Native.Nat.{◌-◌}
-use native.Mathlib.Omega.{arith}
-use borrow.Author.Rules.{rules}
-use Rattle.links.proofs.WordLaws.{within-then}
-use Rattle.journal.proofs.WentLaws.{went-long}
-use Rattle.pairing.proofs.FirstLaws.{PairedTo, paired_none, paired-fits, paired-more, paired-all}
+use Rattle.pairing.proofs.FirstLaws.{PairedTo}
 use Rattle.pairing.proofs.first.load_pairs.Given as goal
 
 -- `work₀` is what `begin` left: its own change of the words is added at the end.

@@ -1,6 +1,5 @@
 use mathlib.Core.Path.{sym, ◌∙◌}
 use native.Mathlib.Omega.{arith}
-use borrow.Author.Rules.{rules}
 use Rattle.links.proofs.WordLaws.{within_none}
 use Rattle.slots.proofs.StateLaws.{links-in-room}
 use Rattle.pairing.proofs.LaterLaws.{turn-skips, turn-keeps, pair-live, pair-room, turn-takes}

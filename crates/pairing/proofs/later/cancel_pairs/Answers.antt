@@ -1,7 +1,4 @@
-use Prim.Native.Nat.{◌-◌}
-use native.Mathlib.Omega.{arith}
-use Rattle.journal.proofs.WentLaws.{went-long}
-use Rattle.pairing.proofs.LaterLaws.{SweptTo, swept_none, swept-fits, swept-more, swept_all}
+use Rattle.pairing.proofs.LaterLaws.{swept_none, swept-more, swept_all}
 use Rattle.pairing.proofs.later.cancel_pairs.Goals as goal
 
 pub loop-i-init : goal.loop-i-init

@@ -1,7 +1,5 @@
 use Prim.Native.Nat.{◌-◌}
-use native.Mathlib.Omega.{arith}
-use Rattle.journal.proofs.WentLaws.{went-long}
-use Rattle.pairing.proofs.LaterLaws.{SweptTo, swept_none, swept-fits, swept-more, swept_all}
+use Rattle.pairing.proofs.LaterLaws.{SweptTo}
 use Rattle.pairing.proofs.later.cancel_pairs.Given as goal
 
 abbrev pub invariant-loop-i : goal.invariant-loop-i

@@ -1,6 +1,5 @@
 use Prim.Native.Nat.{◌<◌}
 use native.Mathlib.Omega.{arith}
-use borrow.Author.Rules.{rules}
 use Rattle.slots.proofs.StateLaws.{live_below}
 use Rattle.pairing.proofs.FoundLaws.{kind-stays, free_stays, blocker-inside, equal-goes, unequal-stays}
 use Rattle.pairing.proofs.later.equal_blocker.Goals as goal
