@@ -10,7 +10,7 @@ import tempfile
 from pathlib import Path
 
 ROOT = Path(__file__).resolve().parent.parent
-VARIANTS = "Rattle·gates.specs.declared.Gate.the-variants"
+VARIANTS = "Rattle.gates.specs.declared.Gate.TheVariants"
 
 # Declarations in one file.
 DECLARATIONS = 25
@@ -74,23 +74,20 @@ def copy_definitions(copy, crate):
 def slips(crate):
     """The must-fail edits of a crate's definitions by their names."""
     edits = {file.stem: file.read_text() for file in sorted((ROOT / "crates" / crate / "must-fail").glob("*.edit"))}
-    return {name: edit for name, edit in edits.items() if edit.startswith("file: specs/")}
+    return {name: edit for name, edit in edits.items() if set(re.findall(r"^file: (\w+)/", edit, re.M)) == {"specs"}}
 
 
 def make_slip(copy, crate, edit):
-    """Replaces each text after 'old: ' by that after the next 'new: ' in a file of the copied crate."""
-    fields = [line.split(": ", 1) for line in edit.split("\n") if re.match("(file|old|new): ", line)]
-    name = next(text for field, text in fields if field == "file")
-    file = copy / "crates" / crate / name
-    text = file.read_text()
-    news = [new for field, new in fields if field == "new"]
-    olds = [old for field, old in fields if field == "old"]
-    # By marks, since the new text of one may be the old text of the next.
-    for at, old in enumerate(olds):
-        text = only_once(text, old, f"\0{at}\0", name)
-    for at, new in enumerate(news):
-        text = text.replace(f"\0{at}\0", new)
-    file.write_text(text)
+    """Makes a must-fail edit in the copied crate, as `rt` does: each pair applies to what the earlier ones made."""
+    name = old = None
+    for field, text in re.findall(r"^(file|old|new): (.*)", edit, re.M):
+        if field == "file":
+            name = text
+        elif field == "old":
+            old = text
+        else:
+            file = copy / "crates" / crate / name
+            file.write_text(only_once(file.read_text(), old, text, name))
 
 
 # ------------------------------------------------------------ the kit's side
@@ -113,9 +110,9 @@ def antt_gates(text):
 def notation_module(names):
     """The gates by name; a measure's second operand is its bit, and all others are wires."""
     lines = [
-        "use Rattle·gates.specs.declared.Gate.{Gate}",
+        "use Rattle.gates.specs.declared.Gate.{Gate}",
         f"use {VARIANTS} as Gates",
-        "use Rattle·gates.specs.Gates.{wire, bit}",
+        "use Rattle.gates.specs.Gates.{wire, bit}",
     ]
     for name in names:
         kind, first, *others = name.split("-")
@@ -126,10 +123,9 @@ def notation_module(names):
 
 def kit_check(copy, crate):
     """The status of the kit's check of the copy, and all that it says."""
-    told = {"cwd": copy, "env": os.environ | {"RT_CUT": "0"}, "text": True}
-    told |= {"stdout": subprocess.PIPE, "stderr": subprocess.STDOUT}
+    told = {"cwd": copy / "crates" / crate, "text": True, "stdout": subprocess.PIPE, "stderr": subprocess.STDOUT}
     # In a group of its own, so that what `rt` started ends with it where this is interrupted.
-    with subprocess.Popen(["rt", "check", crate], start_new_session=True, **told) as running:
+    with subprocess.Popen(["rt", "check"], start_new_session=True, **told) as running:
         try:
             said, _ = running.communicate()
         except BaseException:
@@ -148,10 +144,9 @@ def write_rows(copy, table, rows, together):
     modules = {"Answers": table.answers(), "Notation": notation_module(names)}
     # The kit's messages name a gate in short only where its constructor is imported.
     constructors = sorted({name.split("-")[0].capitalize() for name in names})
-    own = f"Rattle·{table.crate}·proofs.proofs"
+    own = f"Rattle.{table.crate}.proofs"
     head = [
-        "use mathlib.Core.Path.{_≡_, refl}",
-        "use mathlib.Core.List.{[], _∷_}",
+        "use Rattle.std.specs.Prelude.{◌≡◌, refl, [], ◌∷◌}",
         *table.imports,
         f"use {own}.Answers.{{{table.left}, {table.right}}}",
         f"use {own}.Notation.{{{', '.join(names)}}}" if names else "",
@@ -180,7 +175,7 @@ def refused(copy, table, rows, together):
     """The rows of each declaration that the kit does not accept, with what it says of it."""
     named = write_rows(copy, table, rows, together)
     status, said = kit_check(copy, table.crate)
-    if status == 0 and "logic=not-proved" not in said:
+    if status == 0 and "\nlogic=proved " in said:
         return []
     found, others = {}, []
     for error in re.split(r"\n(?! )", said):
