@@ -1,8 +1,8 @@
 /* Stridebank: shortens a list of quantum gates, and keeps a journal of what it did.
  *
  * A list is records of 16 bytes: byte 0 the kind, bytes 1 to 3 zero, then three little-endian 32-bit words. docs/01-scope.md has
- * the kinds, the numbers of refusals and what each buffer holds after a call. Link libstridebank.a, which `rt staticlib
- * stridebank` writes to target/staticlib/.
+ * the kinds, the numbers of refusals and what each buffer holds after a call. Link libstridebank.a, which `rt lib`,
+ * in the folder crates/stridebank, proves and writes to its out/.
  *
  * Every buffer is the caller's, and they must not overlap. A pointer may be anything where its length is 0, but not null: give the
  * address of any object. Every number and every byte of a buffer is tested by the call itself.

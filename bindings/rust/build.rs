@@ -1,5 +1,5 @@
-// The proved archive that `rt staticlib stridebank` writes.
-const ARCHIVES: &str = concat!(env!("CARGO_MANIFEST_DIR"), "/../../target/staticlib");
+// The proved archive that `rt lib` writes in the folder of the crate `stridebank`.
+const ARCHIVES: &str = concat!(env!("CARGO_MANIFEST_DIR"), "/../../crates/stridebank/out");
 
 fn main() {
     println!("cargo:rustc-link-search=native={ARCHIVES}");

@@ -1,5 +1,6 @@
 // The live list for Rust: each function is one of `asking` or `live` under a C name, for bench/ and its comparison.
 #![tactic(auto)]
+
 ghost use Rattle.std.specs.Prelude.{◌≡◌, true, ℕ, ◌*◌, ◌≤◌, ◌<◌, length, drop};
 ghost use Rattle.std.proofs.Math.Option.{some};
 ghost use Rattle.gates.specs.Records.{record_at};
@@ -23,8 +24,8 @@ pub extern "C" fn live_load(
     wires: usize,
     list: &[u8],
 )
-    requires gates_bound { (gates ≤ 1048576) × (wires ≤ 65536) × (16 * gates ≤ length records.old) × (words_for (record { gates = gates; wires = wires }) ≤ length work.old) × (16 * gates ≤ length list.now) }
-    requires by_index { (i : ℕ) → i < gates → Sound wires (record_at list.now i) }
+    requires room { (gates ≤ 1048576) × (wires ≤ 65536) × (16 * gates ≤ length records.old) × (words_for (record { gates = gates; wires = wires }) ≤ length work.old) × (16 * gates ≤ length list.now) }
+    requires sound { (i : ℕ) → i < gates → Sound wires (record_at list.now i) }
     ensures loaded { Loaded records.new work.new (record { gates = gates; wires = wires }) }
     ensures whole { held records.new work.new (record { gates = gates; wires = wires }) ≡ whole_list list.now gates }
     ensures within { Within 0 (words_for (record { gates = gates; wires = wires })) work.old work.new }
@@ -56,7 +57,7 @@ pub extern "C" fn live_position(
     slot: usize,
 ) -> u32
     requires loaded { Loaded records.now work.now (record { gates = gates; wires = wires }) }
-    requires slot_lt_gates { slot < gates }
+    requires slot_in_list { slot < gates }
     ensures { result ≡ length (earlier records.now work.now (record { gates = gates; wires = wires }) slot) }
 {
     let k = Extent { gates, wires };
@@ -74,8 +75,8 @@ pub extern "C" fn live_slot_at(
     position: u32,
 ) -> usize
     requires loaded { Loaded records.now work.now (record { gates = gates; wires = wires }) }
-    requires position_in_bounds { position < length (held records.now work.now (record { gates = gates; wires = wires })) }
-    ensures wires_value { slot_of (cut_at position (held records.now work.now (record { gates = gates; wires = wires }))) ≡ some result }
+    requires position_in_list { position < length (held records.now work.now (record { gates = gates; wires = wires })) }
+    ensures at_position { slot_of (cut_at position (held records.now work.now (record { gates = gates; wires = wires }))) ≡ some result }
     ensures there { (is_live work.now (record { gates = gates; wires = wires }) result ≡ true) × (result < gates) }
 {
     let k = Extent { gates, wires };
@@ -92,8 +93,8 @@ pub extern "C" fn live_drop(
     wires: usize,
     slot: usize,
 )
-    requires live_2 { Live records.now work.old (record { gates = gates; wires = wires }) }
-    requires slot_value { is_live work.old (record { gates = gates; wires = wires }) slot ≡ true }
+    requires linked { Live records.now work.old (record { gates = gates; wires = wires }) }
+    requires slot_live { is_live work.old (record { gates = gates; wires = wires }) slot ≡ true }
     ensures live { Live records.now work.new (record { gates = gates; wires = wires }) }
     ensures dropped { held records.now work.new (record { gates = gates; wires = wires }) ≡ left_out slot (held records.now work.old (record { gates = gates; wires = wires })) }
     ensures within { Within 0 (words_for (record { gates = gates; wires = wires })) work.old work.new }
