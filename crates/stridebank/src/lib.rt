@@ -1,5 +1,6 @@
 // The C boundary: each entry under its C name, its answer as numbers.
 #![tactic(auto)]
+
 ghost use Rattle.std.specs.Prelude.{◌≡◌, length};
 ghost use Rattle.cancel.specs.Cancelling.{tests_of, cancelled_as, out_after, work_after, journal_after, numbers_of};
 ghost use Rattle.stridebank.specs.Boundary.{as_numbers};
