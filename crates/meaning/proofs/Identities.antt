@@ -7,8 +7,7 @@ use Rattle.gates.specs.declared.Gate.TheVariants.{X, H, S, Sdg, Z, T, Tdg, Cnot,
 use Rattle.gates.specs.Gates.{wire, All}
 use Rattle.meaning.specs.Amplitudes.{Ops}
 use Rattle.meaning.proofs.SumLaws.{Laws}
-use Rattle.meaning.proofs.Values.{Values, values-laws}
-use Rattle.meaning.proofs.Placed.{Identity, all_tested, Holds, all_hold, HoldsOfAmplitudes, of-amplitudes}
+use Rattle.meaning.proofs.Placed.{Identity, all_tested, Holds, all_hold}
 
 abbrev identity : ℕ → ℕ → List Gate → List Gate → Identity
 identity turns wires left right = record { wires = wires; left = left; right = right; turns = turns }
@@ -137,6 +136,3 @@ identities =
 pub identities-hold : {A : Type 0} (O : Ops A) (L : Laws O) → All (Holds O L) identities
 unfolding identities all_tested
 identities-hold O L = all_hold O L identities tt
-
-pub identities-of-amplitudes : All HoldsOfAmplitudes identities
-identities-of-amplitudes = of-amplitudes identities (identities-hold Values values-laws)

@@ -10,5 +10,6 @@ pub mod GateOperators
 pub mod Lists
 pub mod Placed
 pub mod Identities
+pub mod AmplitudeIdentities
 pub mod Undo
 pub mod Examples
