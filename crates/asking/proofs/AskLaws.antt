@@ -1,4 +1,5 @@
 -- What the links, the pairs and the ranks of a live list answer: the slots that its list of cells names.
+use Rattle.std.specs.Prelude.{Some, None, Result, Ok}
 use mathlib.Core.Path.{◌≡◌, refl, sym, ap, ap₂, ◌∙◌}
 use mathlib.Core.Bool.{Bool, true, cond, ◌&&◌}
 use mathlib.Core.List.{List, [], ◌∷◌}
@@ -7,8 +8,9 @@ use Prim.Native.Nat.{ℕ, zero, suc, ◌+◌, ◌*◌, ◌-◌, ◌/◌, ◌≤�
 use native.Mathlib.Omega.{arith}
 use lib.ListN.{length, get_or, take}
 use borrow.Author.Tests.{lt-ltb, le-ltb}
+use Rattle.gates.specs.declared.Gate.{Gate}
 use Rattle.gates.specs.declared.records.Record.{Record}
-use Rattle.gates.specs.declared.records.Decoded.{Decoded}
+use Rattle.gates.specs.declared.records.NoGate.{NoGate}
 use Rattle.gates.specs.Gates.{wires_of, touches}
 use Rattle.gates.specs.Kinds.{row_of}
 use Rattle.gates.specs.Records.{record_from, record_at, gate_of, kind_of}
@@ -25,7 +27,6 @@ use Rattle.links.proofs.SeekLaws.{IsLatest, IsEarliest, latest-is, earliest-is}
 use Rattle.ranks.specs.Ranks.{Ranks, marks, below}
 use Rattle.ranks.proofs.SumLaws.{below_none}
 use Rattle.slots.specs.declared.Extent.{Extent}
-use Rattle.slots.specs.declared.Found.{Found}
 use Rattle.slots.specs.Slots.{gate_in, gate_at, cells_from, slot_of, slot_as, found}
 use Rattle.slots.specs.Live.{prev_at, ranks_at, pairs_at, is_live, held, earlier, later, operand_of, node_on, end_of, on_wire, Loaded, Forward, Partners}
 use Rattle.slots.specs.Nodes.{slot_in}
@@ -36,7 +37,7 @@ use Rattle.slots.proofs.StateLaws.{live-is, live_below, mark-live, gate-is, wire
 -- ------------------------------------------------------------ the gate in a slot
 
 -- It is what its record was decoded as.
-pub gate-read : (bytes : List ℕ) (slot : ℕ) (r : Record) (d e : Decoded) → r ≡ record_at bytes slot → d ≡ gate_of r → d ≡ e →
+pub gate-read : (bytes : List ℕ) (slot : ℕ) (r : Record) (d e : Result Gate NoGate) → r ≡ record_at bytes slot → d ≡ gate_of r → d ≡ e →
     gate_in e ≡ gate_at bytes slot
 gate-read bytes slot r d e q f h = ap gate_in (sym h ∙ f ∙ ap gate_of q) ∙ sym (gate-is bytes slot)
 
@@ -46,7 +47,7 @@ first_taken zero first others h = absurd (omega arith)
 first_taken (suc count) first others h = refl
 
 -- The first byte of its record is its kind, the first word its first wire.
-module _ (bytes : List ℕ) (slot : ℕ) (reads : gate_of (record_at bytes slot) ≡ Decoded.Gate (gate_at bytes slot)) where
+module _ (bytes : List ℕ) (slot : ℕ) (reads : gate_of (record_at bytes slot) ≡ Ok (gate_at bytes slot)) where
   pub kind-read : byte_at bytes (16 * slot) ≡ kind_of (gate_at bytes slot)
   unfolding record_from
   kind-read = sym (ap (λ (r : Record). r.kind) (encode-decode (record_at bytes slot) (gate_at bytes slot) reads))
@@ -62,13 +63,13 @@ module _ (bytes : List ℕ) (slot : ℕ) (reads : gate_of (record_at bytes slot)
 -- ------------------------------------------------------------ what a link names
 
 -- Among pairs a slot has the number after it, and 0 names none.
-names-none : (r : Option ℕ) → node_at suc 0 r ≡ 0 → Found.Nothing ≡ found r
+names-none : (r : Option ℕ) → node_at suc 0 r ≡ 0 → None ≡ found r
 names-none none e = refl
 names-none (some j) e = absurd (omega (arith, e))
 
-names-some : (r : Option ℕ) (node : ℕ) → node ≡ node_at suc 0 r → (node ≡ 0 → ⊥) → Found.At (slot_as (node - 1)) ≡ found r
+names-some : (r : Option ℕ) (node : ℕ) → node ≡ node_at suc 0 r → (node ≡ 0 → ⊥) → Some (slot_as (node - 1)) ≡ found r
 names-some none node e d = absurd (d e)
-names-some (some j) node e d = ap (λ (x : ℕ). Found.At (slot_as x)) (omega (arith, e))
+names-some (some j) node e d = ap (λ (x : ℕ). Some (slot_as x)) (omega (arith, e))
 
 -- A slot that meets a test, one of so many; or none.
 abbrev Meets : (ℕ → Bool) → ℕ → Option ℕ → Type 0
@@ -189,10 +190,10 @@ module _ (bytes words : List ℕ) (k : Extent) where
         ap (λ (x : ℕ). get_or words x 0) (omega arith) ∙ p.on slot t q
         ∙ ap (node_at suc 0) (sym (cut-from (is_live words k) (gate_at bytes) (equal (gate_at bytes slot)) (suc slot) (k.gates - suc slot)))
 
-    pub partner-none : partner_word slot ≡ 0 → Found.Nothing ≡ found (partner_of slot)
+    pub partner-none : partner_word slot ≡ 0 → None ≡ found (partner_of slot)
     partner-none e = names-none (partner_of slot) (sym partner-named ∙ e)
 
-    pub partner-some : (partner_word slot ≡ 0 → ⊥) → Found.At (slot_as (partner_word slot - 1)) ≡ found (partner_of slot)
+    pub partner-some : (partner_word slot ≡ 0 → ⊥) → Some (slot_as (partner_word slot - 1)) ≡ found (partner_of slot)
     partner-some d = names-some (partner_of slot) (partner_word slot) partner-named d
 
   -- ------------------------------------------------------------ positions

@@ -1,4 +1,5 @@
 -- The latest gate on one of several wires: the later of the latest on each.
+use Rattle.std.specs.Prelude.{Option as Answer, Some, None}
 use mathlib.Core.Path.{◌≡◌, refl, sym, ap, ap₂, ◌∙◌}
 use mathlib.Core.Bool.{Bool, true, false, cond, ◌&&◌, ◌||◌}
 use mathlib.Core.List.{List, [], ◌∷◌}
@@ -17,7 +18,7 @@ use Rattle.gates.specs.Records.{record_at, operand_words}
 use Rattle.rules.specs.Sweeps.{cut}
 use Rattle.links.specs.Seek.{latest}
 use Rattle.links.proofs.SeekLaws.{IsLatest, latest-is, latest-one, latest-same}
-use Rattle.slots.specs.declared.Found.{Found}
+use Rattle.slots.specs.declared.Slot.{Slot}
 use Rattle.slots.specs.Slots.{gate_at, Sound, cells_below, slot_of, slot_as, found, later_of}
 use Rattle.slots.proofs.HeldLaws.{cut_below}
 use Rattle.slots.proofs.StateLaws.{known, wires-are, operands-small}
@@ -25,18 +26,18 @@ use Rattle.slots.proofs.StateLaws.{known, wires-are, operands-small}
 -- ------------------------------------------------------------ the later of two
 
 -- A slot is later than one found below it, whichever of the two comes first.
-later_second : (i : ℕ) (on : ℕ → Bool) (r : Option ℕ) → IsLatest on i r → later_of (found r) (Found.At (slot_as i)) ≡ Found.At (slot_as i)
+later_second : (i : ℕ) (on : ℕ → Bool) (r : Option ℕ) → IsLatest on i r → later_of (found r) (Some (slot_as i)) ≡ Some (slot_as i)
 later_second i on none h = refl
-later_second i on (some j) h = ap (λ (b : Bool). cond b (Found.At (slot_as i)) (Found.At (slot_as j))) (lt-ltb j i h.0)
+later_second i on (some j) h = ap (λ (b : Bool). cond b (Some (slot_as i)) (Some (slot_as j))) (lt-ltb j i h.0)
 
-later_first : (i : ℕ) (on : ℕ → Bool) (r : Option ℕ) → IsLatest on i r → later_of (Found.At (slot_as i)) (found r) ≡ Found.At (slot_as i)
+later_first : (i : ℕ) (on : ℕ → Bool) (r : Option ℕ) → IsLatest on i r → later_of (Some (slot_as i)) (found r) ≡ Some (slot_as i)
 later_first i on none h = refl
-later_first i on (some j) h = ap (λ (b : Bool). cond b (Found.At (slot_as j)) (Found.At (slot_as i))) (le-ltb i j (omega (arith, h.0)))
+later_first i on (some j) h = ap (λ (b : Bool). cond b (Some (slot_as j)) (Some (slot_as i))) (le-ltb i j (omega (arith, h.0)))
 
-later-itself : (i : ℕ) → later_of (Found.At (slot_as i)) (Found.At (slot_as i)) ≡ Found.At (slot_as i)
+later-itself : (i : ℕ) → later_of (Some (slot_as i)) (Some (slot_as i)) ≡ Some (slot_as i)
 later-itself i = go (ltb i i)
   where
-    go : (b : Bool) → cond b (Found.At (slot_as i)) (Found.At (slot_as i)) ≡ Found.At (slot_as i)
+    go : (b : Bool) → cond b (Some (slot_as i)) (Some (slot_as i)) ≡ Some (slot_as i)
     go true = refl
     go false = refl
 
@@ -75,7 +76,7 @@ meet-more (w ∷ ws) vs (suc op) m = go (has w vs) (meet-more ws vs op (omega ar
 module _ (live : ℕ → Bool) (gates : ℕ → Gate) (slot : ℕ) (ws : List ℕ) where
   -- The latest gate below a slot on one of the first so many wires. It stays shut, so that a loop's proof need not name the
   -- arguments again.
-  unfoldable pub latest_on : ℕ → Found
+  unfoldable pub latest_on : ℕ → Answer Slot
   latest_on op = found (slot_of (cut (λ g. meet (take op ws) (wires_of g)) (cells_below live gates slot)))
 
   abbrev on_one_of : ℕ → ℕ → Bool
@@ -86,7 +87,7 @@ module _ (live : ℕ → Bool) (gates : ℕ → Gate) (slot : ℕ) (ws : List �
   latest-on op = ap found (cut_below live gates (λ g. meet (take op ws) (wires_of g)) slot)
 
   -- On none there is none; one wire more, the later of two; in the end all wires.
-  pub on_none : Found.Nothing ≡ latest_on 0
+  pub on_none : None ≡ latest_on 0
   unfolding meet
   on_none = sym (latest-on 0 ∙ ap found (latest-one (on_one_of 0) slot none (λ j m. off (live j))))
     where
@@ -94,7 +95,7 @@ module _ (live : ℕ → Bool) (gates : ℕ → Gate) (slot : ℕ) (ws : List �
       off true = refl
       off false = refl
 
-  pub on-more : (op w : ℕ) (best next : Found) → op < length ws → w ≡ get_or ws op 0 → best ≡ latest_on op →
+  pub on-more : (op w : ℕ) (best next : Answer Slot) → op < length ws → w ≡ get_or ws op 0 → best ≡ latest_on op →
       next ≡ found (slot_of (cut (touches w) (cells_below live gates slot))) → later_of best next ≡ latest_on (op + 1)
   on-more op w best next m e b n =
       ap₂ later_of (b ∙ latest-on op) (n ∙ ap found (cut_below live gates (touches w) slot))
@@ -123,3 +124,7 @@ module _ (n : ℕ) (bytes : List ℕ) (i : ℕ) (sound : Sound n (record_at byte
 
   pub read-wires : operand_words r ≡ wires_of (gate_at bytes i)
   read-wires = rw e (sym (wires-are n bytes i sound))
+
+  -- As many operands as the gate has wires.
+  pub count-wires : (count : ℕ) → count ≡ length (operand_words r) → count ≡ length (wires_of (gate_at bytes i))
+  count-wires count h = h ∙ ap length read-wires

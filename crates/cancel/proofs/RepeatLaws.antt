@@ -78,7 +78,7 @@ module _ (f : Sweep ℕ) (replays : Replays seven f) where
             looks = let q : (repeated f l).looks ≡ (f l).looks + rest.looks = ap (λ d. d.looks) p in omega (arith, q);
           }
 
-  module _ (l held : List (Cell ℕ)) (before after : ℕ) (was now : List ℕ) (did : Did (f l) held before after was now) where
+  module _ (l : List (Cell ℕ)) {held : List (Cell ℕ)} {before after : ℕ} {was now : List ℕ} (did : Did (f l) held before after was now) where
     -- It fired nothing: all is done.
     pub last-went : after ≡ before → Went (repeated f l) (idle held) (f l).looks before before was now
     last-went p = go (f l).steps refl

@@ -1,12 +1,12 @@
 -- The pass as a call: its answer, and every lent byte and word after it, for every input.
-use Rattle.std.specs.Prelude.{◌≡◌, List, ◌++◌, ℕ, ◌*◌, ◌-◌, ◌/◌, length, drop, replicate}
+use Rattle.std.specs.Prelude.{Result, Ok, Err, Some, ◌≡◌, List, ◌++◌, ℕ, ◌*◌, ◌-◌, ◌/◌, length, drop, replicate}
 use Rattle.rules.specs.Equal.{seven}
 use Rattle.rules.specs.Steps.{gates_of}
 use Rattle.rules.specs.Sweeps.{Done}
 use Rattle.rules.specs.Journal.{journal_bytes}
 use Rattle.rules.specs.Loop.{pass}
-use Rattle.intake.specs.declared.Tested.{Tested}
-use Rattle.intake.specs.declared.JournalRoom.{JournalRoom}
+use Rattle.intake.specs.declared.faults.Refusal.{Refusal}
+use Rattle.intake.specs.Faults.{number_in}
 use Rattle.intake.specs.Tests.{first_failing, input_tests}
 use Rattle.slots.specs.Live.{words_for}
 use Rattle.live.specs.Filling.{whole_list}
@@ -15,37 +15,37 @@ use Rattle.live.specs.Trial.{extent_of}
 use Rattle.cancel.specs.declared.entry.Cancelled.{Cancelled}
 
 -- "Checks run in this order": numbers 1 to 12, of a call with so many wires and bits and rooms of those lengths.
-abbrev pub tests_of : ℕ → ℕ → List ℕ → ℕ → ℕ → ℕ → Tested
+abbrev pub tests_of : ℕ → ℕ → List ℕ → ℕ → ℕ → ℕ → Result Unit Refusal
 tests_of wires bits list out work journal =
-    first_failing (input_tests list (record { wires = wires; bits = bits; output = out; work = work }) (JournalRoom.Bytes journal))
+    first_failing (input_tests list (record { wires = wires; bits = bits; output = out; work = work }) (Some journal))
 
 -- The pass on all gates of a list, each with its place beside it.
 abbrev pub passed : ℕ → List ℕ → Done ℕ
 passed wires list = pass seven wires (whole_list list (length list / 16))
 
-abbrev pub cancelled_as : Tested → ℕ → List ℕ → Cancelled
-cancelled_as Tested.Accepted wires list =
-    let d = passed wires list in Cancelled.Done (length d.list) (length d.steps) d.looks
-cancelled_as (Tested.Refused number place) wires list = Cancelled.Refused number place
+abbrev pub cancelled_as : Result Unit Refusal → ℕ → List ℕ → Result Cancelled Refusal
+cancelled_as (Ok _) wires list =
+    let d = passed wires list in Ok (record { left = length d.list; steps = length d.steps; walked = d.looks })
+cancelled_as (Err why) wires list = Err why
 
 -- "Output holds m records, zeros up to byte 16g, and is untouched beyond." A refusal touches nothing.
-abbrev pub out_after : Tested → ℕ → List ℕ → List ℕ → List ℕ
-out_after Tested.Accepted wires list out =
+abbrev pub out_after : Result Unit Refusal → ℕ → List ℕ → List ℕ → List ℕ
+out_after (Ok _) wires list out =
     let left = (passed wires list).list in
     list_bytes (gates_of left) ++ (replicate (16 * (length list / 16 - length left)) 0 ++ drop (16 * (length list / 16)) out)
-out_after (Tested.Refused number place) wires list out = out
+out_after (Err why) wires list out = out
 
 -- "The first 16g + 4n work words are zero, the rest untouched."
-abbrev pub work_after : Tested → ℕ → List ℕ → List ℕ → List ℕ
-work_after Tested.Accepted wires list work = zeroed 0 (words_for (extent_of list wires)) work
-work_after (Tested.Refused number place) wires list work = work
+abbrev pub work_after : Result Unit Refusal → ℕ → List ℕ → List ℕ → List ℕ
+work_after (Ok _) wires list work = zeroed 0 (words_for (extent_of list wires)) work
+work_after (Err why) wires list work = work
 
 -- "The journal holds s records, zeros up to byte 24g, untouched beyond."
-abbrev pub journal_after : Tested → ℕ → List ℕ → List ℕ → List ℕ
-journal_after Tested.Accepted wires list journal =
+abbrev pub journal_after : Result Unit Refusal → ℕ → List ℕ → List ℕ → List ℕ
+journal_after (Ok _) wires list journal =
     let steps = (passed wires list).steps in
     journal_bytes steps ++ (replicate (24 * (length list / 16) - 16 * length steps) 0 ++ drop (24 * (length list / 16)) journal)
-journal_after (Tested.Refused number place) wires list journal = journal
+journal_after (Err why) wires list journal = journal
 
 -- ------------------------------------------------------------ numbers
 
@@ -57,15 +57,15 @@ pub record Numbers : Type 0 where
   pub steps : ℕ
   pub walked : ℕ
 
-abbrev pub numbers_of : Cancelled → Numbers
-numbers_of (Cancelled.Done left steps walked) = record { number = 0; place = 0; left = left; steps = steps; walked = walked }
-numbers_of (Cancelled.Refused number place) = record { number = number; place = place.0; left = 0; steps = 0; walked = 0 }
+abbrev pub numbers_of : Result Cancelled Refusal → Numbers
+numbers_of (Ok done) = record { number = 0; place = 0; left = done.left; steps = done.steps; walked = done.walked }
+numbers_of (Err why) = record { number = number_in why.fault; place = why.place.0; left = 0; steps = 0; walked = 0 }
 
 -- ------------------------------------------------------------ outcomes
 
 -- All that a call leaves and answers.
 pub record Outcome : Type 0 where
-  pub answer : Cancelled
+  pub answer : Result Cancelled Refusal
   pub out : List ℕ
   pub work : List ℕ
   pub journal : List ℕ
@@ -79,7 +79,7 @@ pub record Call : Type 0 where
   pub work : List ℕ
   pub journal : List ℕ
 
-abbrev pub tested_of : Call → Tested
+abbrev pub tested_of : Call → Result Unit Refusal
 tested_of c = tests_of c.wires c.bits c.list (length c.out) (length c.work) (length c.journal)
 
 -- The contract of `cancel`, as a relation between a call and its outcome.

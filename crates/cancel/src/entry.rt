@@ -3,24 +3,18 @@ ghost use Rattle.std.specs.Prelude.{◌≡◌, length};
 ghost use Rattle.cancel.specs.Cancelling.{tests_of, cancelled_as, out_after, work_after, journal_after};
 
 use crate::rounds;
-use gates::Position;
-use intake::{JournalRoom, Sizes, Tested};
+use intake::Sizes;
+use intake::faults::Refusal;
 use live::{finish, load};
 use pairing::first;
 use slots::Extent;
 
-// What a call comes back with: document 01's m, s and walked; or the number and the place of a refusal.
-#[derive(Clone, Copy)]
-pub enum Cancelled {
-    Done {
-        left: usize,
-        steps: usize,
-        walked: u64,
-    },
-    Refused {
-        number: u32,
-        place: Position,
-    },
+// Document 01's m, s and walked: the records left, the steps of the journal, and the gates that walks looked at.
+#[derive(Clone, Copy, PartialEq, Eq)]
+pub struct Cancelled {
+    pub left: usize,
+    pub steps: usize,
+    pub walked: u64,
 }
 
 // The pass on a list of records. What is left goes to the front of `out`, its steps into `journal`.
@@ -31,7 +25,7 @@ pub fn cancel(
     out: &mut [u8],
     work: &mut [u32],
     journal: &mut [u8],
-) -> Cancelled
+) -> Result<Cancelled, Refusal>
     ensures answer { result ≡ cancelled_as (tests_of wires bits list.now (length out.old) (length work.old) (length journal.old)) wires list.now }
     ensures out { out.new ≡ out_after (tests_of wires bits list.now (length out.old) (length work.old) (length journal.old)) wires list.now out.old }
     ensures work { work.new ≡ work_after (tests_of wires bits list.now (length out.old) (length work.old) (length journal.old)) wires list.now work.old }
@@ -43,10 +37,7 @@ pub fn cancel(
         output: out.len(),
         work: work.len(),
     };
-    let tested = intake::test_input(list, sizes, JournalRoom::Bytes(journal.len()));
-    if let Tested::Refused { number, place } = tested {
-        return Cancelled::Refused { number, place };
-    }
+    intake::test_input(list, sizes, Some(journal.len()))?;
     let k = Extent {
         gates: list.len() / 16,
         wires,
@@ -55,11 +46,10 @@ pub fn cancel(
     load::link(out, work, k);
     let swept = rounds::all_rounds(out, work, journal, k, loaded);
     let left = finish::finish(out, work, k);
-    let written = 16 * swept.steps;
-    finish::clear_bytes(journal, written, 24 * k.gates - written);
-    Cancelled::Done {
+    journal[16 * swept.steps..24 * k.gates].fill(0);
+    Ok(Cancelled {
         left,
         steps: swept.steps,
         walked: swept.looks,
-    }
+    })
 }

@@ -1,8 +1,9 @@
-// Sweeps again until nothing changes, and rounds of them.
-ghost use Rattle.std.specs.Prelude.{◌≡◌, ◌+◌, ◌*◌, ◌^◌, ◌≤◌, ◌<◌, length, drop};
+// Sweeps again until nothing changes, and rounds of them. The lent slices go apart: document 01, "separate lent slices".
+ghost use Rattle.std.specs.Prelude.{◌≡◌, ℕ, ◌+◌, ◌*◌, ◌^◌, ◌≤◌, ◌<◌, length, drop};
 ghost use Rattle.rules.specs.Equal.{seven};
-ghost use Rattle.rules.specs.Sweeps.{hadamard_sweep, commuting_sweep};
+ghost use Rattle.rules.specs.Sweeps.{Sweep, hadamard_sweep, commuting_sweep};
 ghost use Rattle.rules.specs.Loop.{repeated, round};
+ghost use Rattle.rules.proofs.Replays.{Replays, hadamard-replays, commuting-replays, round-replays};
 ghost use Rattle.links.specs.Words.{Within};
 ghost use Rattle.slots.specs.Live.{words_for, held, Live};
 ghost use Rattle.journal.specs.Sweeping.{Did};
@@ -13,111 +14,118 @@ use hadamards::firing;
 use pairing::later;
 use slots::Extent;
 
-// The Hadamard sweep until nothing changes.
-fn repeat_hadamards(
+// A sweep over the live list: what it does on so many wires, and that its steps lead there.
+trait Sweeps {
+    ghost does: { ℕ → Sweep ℕ };
+
+    fn sweep(
+        records: &mut [u8],
+        work: &mut [u32],
+        journal: &mut [u8],
+        k: Extent,
+        steps: usize,
+    ) -> Swept
+        requires live { Live records.old work.old k }
+        requires room { (0 < k.gates) × (16 * (steps + length (does k.wires (held records.old work.old k)).steps) ≤ length journal.old) }
+        requires few_looks { (does k.wires (held records.old work.old k)).looks < 2 ^ 64 }
+        ensures live { Live records.new work.new k }
+        ensures did { Did (does k.wires (held records.old work.old k)) (held records.new work.new k) steps result.steps journal.old journal.new }
+        ensures looked { result.looks ≡ (does k.wires (held records.old work.old k)).looks }
+        ensures within { Within 0 (words_for k) work.old work.new }
+        ensures past { drop (16 * k.gates) records.new ≡ drop (16 * k.gates) records.old };
+
+    ghost replays: { (n : ℕ) → Replays seven (does n) };
+}
+
+// A sweep until nothing changes.
+fn repeat<S: Sweeps>(
     records: &mut [u8],
     work: &mut [u32],
     journal: &mut [u8],
     k: Extent,
     steps: usize,
-) -> usize
-    requires live_2 { Live records.old work.old k }
-    requires gates_nonzero { (0 < k.gates) × (16 * (steps + length (repeated (hadamard_sweep k.wires) (held records.old work.old k)).steps) ≤ length journal.old) }
+) -> Swept
+    requires live { Live records.old work.old k }
+    requires room { (0 < k.gates) × (16 * (steps + length (repeated (S.does k.wires) (held records.old work.old k)).steps) ≤ length journal.old) }
+    requires few_looks { (repeated (S.does k.wires) (held records.old work.old k)).looks < 2 ^ 64 }
     ensures live { Live records.new work.new k }
-    ensures did { Did (repeated (hadamard_sweep k.wires) (held records.old work.old k)) (held records.new work.new k) steps result journal.old journal.new }
+    ensures did { Did (repeated (S.does k.wires) (held records.old work.old k)) (held records.new work.new k) steps result.steps journal.old journal.new }
+    ensures looked { result.looks ≡ (repeated (S.does k.wires) (held records.old work.old k)).looks }
     ensures within { Within 0 (words_for k) work.old work.new }
     ensures past { drop (16 * k.gates) records.new ≡ drop (16 * k.gates) records.old }
 {
     let mut s = steps;
-    loop {
-        let after = firing::reduce_hadamards(records, work, journal, k, s);
-        if after == s {
-            return s;
-        }
-        s = after;
-    }
-}
-
-// The commuting sweep until nothing changes.
-fn repeat_commuting(
-    records: &[u8],
-    work: &mut [u32],
-    journal: &mut [u8],
-    k: Extent,
-    steps: usize,
-) -> Swept
-    requires live_2 { Live records.now work.old k }
-    requires k_in_bounds { 16 * (steps + length (repeated commuting_sweep (held records.now work.old k)).steps) ≤ length journal.old }
-    requires k_bound { (repeated commuting_sweep (held records.now work.old k)).looks < 2 ^ 64 }
-    ensures live { Live records.now work.new k }
-    ensures did { Did (repeated commuting_sweep (held records.now work.old k)) (held records.now work.new k) steps result.steps journal.old journal.new }
-    ensures looked { result.looks ≡ (repeated commuting_sweep (held records.now work.old k)).looks }
-    ensures within { Within 0 (words_for k) work.old work.new }
-{
-    let mut s = steps;
     let mut looks: u64 = 0;
     loop {
-        let swept = sweep::cancel_commuting_pairs(records, work, journal, k, s);
+        let swept = S::sweep(records, work, journal, k, s);
         looks += swept.looks;
         if swept.steps == s {
             return Swept { steps: s, looks };
         }
         s = swept.steps;
+    }
+}
+
+struct Hadamards;
+
+impl Sweeps for Hadamards {
+    ghost does = { λ n. hadamard_sweep n };
+
+    ghost replays = { λ n. hadamard-replays seven n };
+
+    fn sweep(
+        records: &mut [u8],
+        work: &mut [u32],
+        journal: &mut [u8],
+        k: Extent,
+        steps: usize,
+    ) -> Swept {
+        Swept {
+            steps: firing::reduce_hadamards(records, work, journal, k, steps),
+            looks: 0,
+        }
+    }
+}
+
+struct Commuting;
+
+impl Sweeps for Commuting {
+    ghost does = { λ n. commuting_sweep };
+
+    ghost replays = { λ n. commuting-replays seven };
+
+    fn sweep(
+        records: &mut [u8],
+        work: &mut [u32],
+        journal: &mut [u8],
+        k: Extent,
+        steps: usize,
+    ) -> Swept {
+        sweep::cancel_commuting_pairs(records, work, journal, k, steps)
     }
 }
 
 // One round: Hadamard, commuting, pair.
-fn one_round(
-    records: &mut [u8],
-    work: &mut [u32],
-    journal: &mut [u8],
-    k: Extent,
-    steps: usize,
-) -> Swept
-    requires live_2 { Live records.old work.old k }
-    requires gates_nonzero { (0 < k.gates) × (16 * (steps + length (round seven k.wires (held records.old work.old k)).steps) ≤ length journal.old) }
-    requires k_bound { (round seven k.wires (held records.old work.old k)).looks < 2 ^ 64 }
-    ensures live { Live records.new work.new k }
-    ensures did { Did (round seven k.wires (held records.old work.old k)) (held records.new work.new k) steps result.steps journal.old journal.new }
-    ensures looked { result.looks ≡ (round seven k.wires (held records.old work.old k)).looks }
-    ensures within { Within 0 (words_for k) work.old work.new }
-    ensures past { drop (16 * k.gates) records.new ≡ drop (16 * k.gates) records.old }
-{
-    let s = repeat_hadamards(records, work, journal, k, steps);
-    let swept = repeat_commuting(records, work, journal, k, s);
-    let after = later::cancel_pairs(records, work, journal, k, swept.steps);
-    Swept {
-        steps: after,
-        looks: swept.looks,
-    }
-}
+struct Round;
 
-// Rounds until one in which nothing fires.
-fn repeat_rounds(
-    records: &mut [u8],
-    work: &mut [u32],
-    journal: &mut [u8],
-    k: Extent,
-    steps: usize,
-) -> Swept
-    requires live_2 { Live records.old work.old k }
-    requires gates_nonzero { (0 < k.gates) × (16 * (steps + length (repeated (round seven k.wires) (held records.old work.old k)).steps) ≤ length journal.old) }
-    requires k_bound { (repeated (round seven k.wires) (held records.old work.old k)).looks < 2 ^ 64 }
-    ensures live { Live records.new work.new k }
-    ensures did { Did (repeated (round seven k.wires) (held records.old work.old k)) (held records.new work.new k) steps result.steps journal.old journal.new }
-    ensures looked { result.looks ≡ (repeated (round seven k.wires) (held records.old work.old k)).looks }
-    ensures within { Within 0 (words_for k) work.old work.new }
-    ensures past { drop (16 * k.gates) records.new ≡ drop (16 * k.gates) records.old }
-{
-    let mut s = steps;
-    let mut looks: u64 = 0;
-    loop {
-        let swept = one_round(records, work, journal, k, s);
-        looks += swept.looks;
-        if swept.steps == s {
-            return Swept { steps: s, looks };
+impl Sweeps for Round {
+    ghost does = { λ n. round seven n };
+
+    ghost replays = { λ n. round-replays seven n };
+
+    fn sweep(
+        records: &mut [u8],
+        work: &mut [u32],
+        journal: &mut [u8],
+        k: Extent,
+        steps: usize,
+    ) -> Swept {
+        let reduced = repeat::<Hadamards>(records, work, journal, k, steps);
+        let swept = repeat::<Commuting>(records, work, journal, k, reduced.steps);
+        Swept {
+            steps: later::cancel_pairs(records, work, journal, k, swept.steps),
+            looks: swept.looks,
         }
-        s = swept.steps;
     }
 }
 
@@ -129,9 +137,9 @@ pub fn all_rounds(
     k: Extent,
     steps: usize,
 ) -> Swept
-    requires live_2 { Live records.old work.old k }
-    requires k_in_bounds { 16 * (steps + length (repeated (round seven k.wires) (held records.old work.old k)).steps) ≤ length journal.old }
-    requires k_bound { (repeated (round seven k.wires) (held records.old work.old k)).looks < 2 ^ 64 }
+    requires live { Live records.old work.old k }
+    requires room { 16 * (steps + length (repeated (round seven k.wires) (held records.old work.old k)).steps) ≤ length journal.old }
+    requires few_looks { (repeated (round seven k.wires) (held records.old work.old k)).looks < 2 ^ 64 }
     ensures live { Live records.new work.new k }
     ensures did { Did (repeated (round seven k.wires) (held records.old work.old k)) (held records.new work.new k) steps result.steps journal.old journal.new }
     ensures looked { result.looks ≡ (repeated (round seven k.wires) (held records.old work.old k)).looks }
@@ -141,5 +149,5 @@ pub fn all_rounds(
     if k.gates == 0 {
         return Swept { steps, looks: 0 };
     }
-    repeat_rounds(records, work, journal, k, steps)
+    repeat::<Round>(records, work, journal, k, steps)
 }

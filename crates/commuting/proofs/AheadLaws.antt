@@ -1,6 +1,6 @@
 -- The commuting sweep at a slot: what is still to come from there and from the next slot on.
 use mathlib.Core.Path.{◌≡◌, refl, sym, ap, ap₂, ◌∙◌}
-use mathlib.Core.Bool.{Bool, true, false, not, cond, ◌&&◌}
+use mathlib.Core.Bool.{Bool, true, false, not, cond, ◌&&◌, and-true, and-false}
 use mathlib.Core.List.{List, [], ◌∷◌, ◌++◌, append_assoc, append-nil}
 use mathlib.Core.Option.{some, none}
 use Prim.Native.Nat.{ℕ, zero, suc, ◌+◌, ◌-◌, ◌≤◌, ◌<◌}
@@ -23,7 +23,7 @@ one_cell : (live : ℕ → Bool) (gates : ℕ → Gate) (s count : ℕ) →
 unfolding cells_from
 one_cell live gates s count = refl
 
-no_cells : (live : ℕ → Bool) (gates : ℕ → Gate) (s : ℕ) → cells_from live gates s 0 ≡ []
+pub no_cells : (live : ℕ → Bool) (gates : ℕ → Gate) (s : ℕ) → cells_from live gates s 0 ≡ []
 unfolding cells_from
 no_cells live gates s = refl
 
@@ -125,14 +125,6 @@ module _ (live : ℕ → Bool) (gates : ℕ → Gate) (g s : ℕ) (inside : s < 
             ∙ append-nil (cells_from live' gates 0 s)
             ∙ cells_same live' live gates gates 0 s (λ i from to. same i (omega (arith, to))) (λ i from to h. refl)
           where
-            and-false : (a : Bool) → a && false ≡ false
-            and-false true = refl
-            and-false false = refl
-
-            and-true : (a : Bool) → a && true ≡ a
-            and-true true = refl
-            and-true false = refl
-
             gone : live' s ≡ false
             gone =
                 taken s ∙ ap (λ b. (live s && not b) && not (eqb s c.here.beside)) (eq-eqb s s refl)
@@ -153,10 +145,6 @@ module _ (live : ℕ → Bool) (gates : ℕ → Gate) (g s : ℕ) (inside : s < 
             ∙ ap (λ b. b && not (eqb i c.here.beside)) (and-true (live i)))
             (λ i from to h. refl)
             ∙ sym parts.rest
-          where
-            and-true : (a : Bool) → a && true ≡ a
-            and-true true = refl
-            and-true false = refl
 
         pub ahead-reached : (looks : ℕ) → walk_past (gates s) c.before ≡ reached looks →
             ahead live gates g s

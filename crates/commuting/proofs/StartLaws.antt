@@ -1,9 +1,10 @@
 -- Where a walk starts: behind the pair's own nodes, with all of its tracks.
 use mathlib.Core.Path.{◌≡◌, refl, sym, ap, ap₂, subst, ◌∙◌}
-use mathlib.Core.Bool.{Bool, true, false, cond, ◌||◌, false≢true}
+use mathlib.Core.Bool.{true, cond}
 use mathlib.Core.List.{List, [], ◌∷◌, ◌++◌}
 use Prim.Native.Nat.{ℕ, zero, suc, ◌+◌, ◌*◌, ◌-◌, ◌≤◌, ◌<◌}
 use native.Mathlib.Omega.{arith}
+use Rattle.std.proofs.lemmas.Bool.Decides.{nat_tests}
 use lib.Dec.{eqb}
 use lib.ListN.{length, get_or, take}
 use Rattle.gates.specs.declared.Gate.{Gate}
@@ -13,7 +14,6 @@ use Rattle.gates.specs.Kinds.{shape_of, wires_in}
 use Rattle.gates.specs.Records.{record_at, operand_words}
 use Rattle.rules.specs.Steps.{Cell, track}
 use Rattle.rules.specs.Sweeps.{room, tracks, walk_past}
-use Rattle.rules.proofs.EqualLaws.{eqb_comm}
 use Rattle.leaves.specs.declared.pairs.CommutingPair.{CommutingPair}
 use Rattle.leaves.specs.Answers.{as_gate}
 use Rattle.leaves.proofs.PairLaws.{pair-wires}
@@ -30,44 +30,19 @@ use Rattle.commuting.proofs.WalkLaws.{Meant, Walking, wires, walk_is, queue_at, 
 
 -- ------------------------------------------------------------ the node of a wire, by the record's words
 
-third-place : (x y z : Bool) → x || (y || (z || false)) ≡ true →
-    cond x 0 (suc (cond y 0 (suc (cond z 0 (suc 0))))) ≡ cond x 0 (cond y 1 2)
-third-place true y z h = refl
-third-place false true z h = refl
-third-place false false true h = refl
-third-place false false false h = absurd (false≢true h)
-
 place_is : (a b c w n : ℕ) → has w (take n (a ∷ b ∷ c ∷ [])) ≡ true →
     operand_of w (take n (a ∷ b ∷ c ∷ [])) ≡ cond (eqb a w) 0 (cond (eqb b w) 1 2)
 unfolding has operand_of
-place_is a b c w zero h = absurd (false≢true h)
-place_is a b c w (suc zero) h = rw (eqb_comm a w, eqb_comm b w) (go (eqb w a) (eqb w b) h)
-  where
-    go : (x y : Bool) → x || false ≡ true → cond x 0 (suc 0) ≡ cond x 0 (cond y 1 2)
-    go true y h = refl
-    go false y h = absurd (false≢true h)
-place_is a b c w (suc (suc zero)) h = rw (eqb_comm a w, eqb_comm b w) (go (eqb w a) (eqb w b) h)
-  where
-    go : (x y : Bool) → x || (y || false) ≡ true → cond x 0 (suc (cond y 0 (suc 0))) ≡ cond x 0 (cond y 1 2)
-    go true y h = refl
-    go false true h = refl
-    go false false h = absurd (false≢true h)
-place_is a b c w (suc (suc (suc zero))) h = rw (eqb_comm a w, eqb_comm b w) (third-place (eqb w a) (eqb w b) (eqb w c) h)
-place_is a b c w (suc (suc (suc (suc n)))) h = rw (eqb_comm a w, eqb_comm b w) (third-place (eqb w a) (eqb w b) (eqb w c) h)
+place_is a b c w zero h = cc
+place_is a b c w (suc zero) h = grind (arith, nat_tests)
+place_is a b c w (suc (suc zero)) h = grind (arith, nat_tests)
+place_is a b c w (suc (suc (suc zero))) h = grind (arith, nat_tests)
+place_is a b c w (suc (suc (suc (suc n)))) h = grind (arith, nat_tests)
 
 node_at_lem : (words : List ℕ) (slot : ℕ) (r : Record) (w : ℕ) →
     node_of words slot r w ≡ word words 0 (3 * slot + cond (eqb r.first w) 0 (cond (eqb r.second w) 1 2))
 unfolding node_of
-node_at_lem words slot r w = go (eqb r.first w) (eqb r.second w)
-  where
-    at : (x y : ℕ) → x ≡ y → get_or words x 0 ≡ get_or words y 0
-    at x y e = ap (λ (x : ℕ). get_or words x 0) e
-
-    go : (x y : Bool) → cond x (get_or words (3 * slot) 0) (cond y (get_or words (3 * slot + 1) 0) (get_or words (3 * slot + 2) 0))
-        ≡ word words 0 (3 * slot + cond x 0 (cond y 1 2))
-    go true y = at (3 * slot) (0 + (3 * slot + 0)) (omega arith)
-    go false true = at (3 * slot + 1) (0 + (3 * slot + 1)) (omega arith)
-    go false false = at (3 * slot + 2) (0 + (3 * slot + 2)) (omega arith)
+node_at_lem words slot r w = grind (arith, nat_tests)
 
 -- ------------------------------------------------------------ the nodes, operand by operand
 

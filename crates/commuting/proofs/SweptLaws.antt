@@ -1,7 +1,7 @@
 -- The commuting sweep in code, slot by slot: start, turn, finish.
 use mathlib.Core.Path.{◌≡◌, refl, sym, ap, ◌∙◌}
 use mathlib.Core.List.{List, [], append-nil}
-use Prim.Native.Nat.{ℕ, zero, suc, ◌+◌, ◌*◌, ◌-◌, ◌^◌, ◌≤◌, ◌<◌}
+use Prim.Native.Nat.{ℕ, zero, suc, ◌+◌, ◌-◌, ◌≤◌, ◌<◌}
 use native.Mathlib.Omega.{arith}
 use lib.ListN.{length}
 use Rattle.rules.specs.Steps.{Cell}
@@ -14,9 +14,8 @@ use Rattle.slots.specs.Slots.{gate_at, cells_from}
 use Rattle.slots.specs.Live.{words_for, is_live, held, Live}
 use Rattle.journal.specs.Sweeping.{Did, Went}
 use Rattle.journal.proofs.SweepingLaws.{went-none, went_on, went-did, went-looks}
-use Rattle.journal.proofs.WentLaws.{went-fits}
 use Rattle.commuting.specs.Ahead.{commuting_ahead}
-use Rattle.commuting.proofs.AheadLaws.{few-cells}
+use Rattle.commuting.proofs.AheadLaws.{few-cells, no_cells}
 use Rattle.commuting.proofs.TurnLaws.{went-counted}
 
 -- So far, up to a slot.
@@ -25,10 +24,6 @@ pub record SweptTo (bytes words₀ journal₀ : List ℕ) (k : Extent) (steps i 
   pub live : Live bytes words k
   pub went : Went (commuting_sweep (held bytes words₀ k)) (commuting_ahead bytes words k i) looks steps s journal₀ journal
   pub within : Within 0 (words_for k) words₀ words
-
-no_cells : (bytes words : List ℕ) (k : Extent) (i : ℕ) → cells_from (is_live words k) (gate_at bytes) i 0 ≡ []
-unfolding cells_from
-no_cells bytes words k i = refl
 
 sweep-is : (l : List (Cell ℕ)) → commuting_sweep l ≡ commuting_from (length l) 0 l
 unfolding commuting_sweep
@@ -42,7 +37,7 @@ at_first bytes words k =
     sweep-is l ∙ commuting-enough (length l) k.gates 0 l (omega arith) (few-cells (is_live words k) (gate_at bytes) 0 k.gates)
     ∙ ap (λ n. stay [] (commuting_from k.gates 0 (cells_from (is_live words k) (gate_at bytes) 0 n))) all
     ∙ ap (λ b. stay b (commuting_from k.gates (length b) (cells_from (is_live words k) (gate_at bytes) 0 (k.gates - 0))))
-    (sym (no_cells bytes words k 0))
+    (sym (no_cells (is_live words k) (gate_at bytes) 0))
 
 from-none : (n i : ℕ) → ◌≡◌ {A = Done ℕ} (commuting_from n i []) (idle [])
 unfolding commuting_from
@@ -56,7 +51,7 @@ at_last bytes words k i p =
     let b = cells_from (is_live words k) (gate_at bytes) 0 i in
     ap (λ g. stay b (commuting_from k.gates (length b) (cells_from (is_live words k) (gate_at bytes) i (g - i)))) (sym p)
     ∙ ap (λ n. stay b (commuting_from k.gates (length b) (cells_from (is_live words k) (gate_at bytes) i n))) none_left
-    ∙ ap (λ l. stay b (commuting_from k.gates (length b) l)) (no_cells bytes words k i)
+    ∙ ap (λ l. stay b (commuting_from k.gates (length b) l)) (no_cells (is_live words k) (gate_at bytes) i)
     ∙ ap (stay b) (from-none k.gates (length b))
     ∙ ap idle (append-nil b)
     ∙ ap (λ g. idle (cells_from (is_live words k) (gate_at bytes) 0 g)) p
@@ -71,19 +66,12 @@ swept_none bytes words journal k steps live =
       within = within_none 0 (words_for k) words;
     }
 
-module _ (bytes words₀ journal₀ : List ℕ) (k : Extent) (steps i : ℕ) (words journal : List ℕ) (s looks : ℕ)
+module _ {bytes words₀ journal₀ : List ℕ} {k : Extent} {steps i : ℕ} {words journal : List ℕ} {s looks : ℕ}
     (to : SweptTo bytes words₀ journal₀ k steps i words journal s looks) where
-  pub swept-fits : 16 * (steps + length (commuting_sweep (held bytes words₀ k)).steps) ≤ length journal₀ →
-      16 * (s + length (commuting_ahead bytes words k i).steps) ≤ length journal
-  swept-fits h = went-fits _ _ looks steps s journal₀ journal to.went h
-
-  pub swept-looks : (commuting_sweep (held bytes words₀ k)).looks < 2 ^ 64 → looks + (commuting_ahead bytes words k i).looks < 2 ^ 64
-  swept-looks h = let p = to.went.looked in omega (arith, p, h)
-
-  pub swept-more : (words' journal' : List ℕ) (s' looks' : ℕ) → i < k.gates → Live bytes words' k →
+  pub swept-more : {words' journal' : List ℕ} {s' looks' : ℕ} → i < k.gates → Live bytes words' k →
       Went (commuting_ahead bytes words k i) (commuting_ahead bytes words' k (i + 1)) (looks' - looks) s s' journal journal' → looks ≤ looks' →
       Within 0 (words_for k) words words' → SweptTo bytes words₀ journal₀ k steps (i + 1) words' journal' s' looks'
-  swept-more words' journal' s' looks' h live went more within =
+  swept-more {words'} h live went more within =
       record {
         inside = omega (arith, h);
         live = live;

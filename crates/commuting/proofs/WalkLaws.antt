@@ -1,4 +1,5 @@
 -- A walk from a pair to its partner, as the loops hold it: nodes for the tracks, and what is still to be walked.
+use Rattle.std.specs.Prelude.{Some}
 use mathlib.Core.Path.{◌≡◌, refl, sym, ap, ap₂, subst, ◌∙◌}
 use mathlib.Core.Bool.{Bool, true, false, ◌||◌, ◌&&◌, or-false, false≢true}
 use mathlib.Core.List.{List, [], ◌∷◌, ◌++◌, append-nil}
@@ -17,7 +18,6 @@ use Rattle.rules.specs.MayPass.{may_pass}
 use Rattle.rules.specs.Sweeps.{Walk, reached, blocked, room, walk_past}
 use Rattle.rules.proofs.EqualLaws.{eqb_comm, canonical-meet}
 use Rattle.leaves.specs.declared.pairs.CommutingPair.{CommutingPair}
-use Rattle.leaves.specs.declared.pairs.Paired.{Paired}
 use Rattle.leaves.specs.Answers.{pair_of, as_gate}
 use Rattle.leaves.proofs.PairLaws.{pair-wires, pair-passes, same-pair}
 use Rattle.passing.specs.Quick.{past_of, passes_by}
@@ -47,7 +47,7 @@ meets-one [] w = refl
 meets-one (v ∷ vs) w = ap₂ ◌||◌ (or-false (eqb v w) ∙ eqb_comm v w) (meets-one vs w)
 
 -- A gate touches the wires of its pair.
-pair-touches : (g : Gate) (p : CommutingPair) → pair_of g ≡ Paired.Pair p → (w : ℕ) → has w (wires_of (as_gate p)) ≡ true → touches w g ≡ true
+pair-touches : (g : Gate) (p : CommutingPair) → pair_of g ≡ Some p → (w : ℕ) → has w (wires_of (as_gate p)) ≡ true → touches w g ≡ true
 pair-touches g p e w h =
     sym (meets-one (wires_of g) w) ∙ sym (canonical-meet g (w ∷ [])) ∙ ap (λ (l : List ℕ). meet l (w ∷ [])) (sym (pair-wires g p e))
     ∙ meets-one (wires_of (as_gate p)) w ∙ h
@@ -60,7 +60,7 @@ pub record Meant (bytes words : List ℕ) (k : Extent) (slot partner : ℕ) (pai
   pub here : is_live words k slot ≡ true
   pub there : is_live words k partner ≡ true
   pub before : slot < partner
-  pub is : pair_of (gate_at bytes slot) ≡ Paired.Pair pair
+  pub is : pair_of (gate_at bytes slot) ≡ Some pair
   pub alike : equal (gate_at bytes slot) (gate_at bytes partner) ≡ true
 
 -- The operands' wires, in the order in which they are walked.

@@ -10,12 +10,14 @@ ghost use Rattle.commuting.specs.Ahead.{commuting_ahead};
 
 use crate::walk;
 use crate::walk::Ending;
+use asking::linked::LiveList;
+use asking::loaded::LoadedList;
+use journal::StepKind;
 use leaves::pairs;
-use leaves::pairs::Paired;
-use slots::{Extent, Found, Slot};
+use slots::{Extent, Slot};
 
 // The steps of the journal so far, and the gates that walks looked at.
-#[derive(Clone, Copy)]
+#[derive(Clone, Copy, PartialEq, Eq)]
 pub struct Swept {
     pub steps: usize,
     pub looks: u64,
@@ -30,33 +32,36 @@ fn try_partner(
     slot: Slot,
     swept: Swept,
 ) -> Swept
-    requires live_2 { Live records.now work.old k }
-    requires slot_value { (is_live work.old k slot.0 ≡ true) × (is_pair (gate_at records.now slot.0) ≡ true) }
-    requires slot_in_bounds { 16 * (swept.steps + length (commuting_ahead records.now work.old k slot.0).steps) ≤ length journal.old }
-    requires slot_bound { swept.looks + (commuting_ahead records.now work.old k slot.0).looks < 2 ^ 64 }
+    requires live { Live records.now work.old k }
+    requires live_pair { (is_live work.old k slot.0 ≡ true) × (is_pair (gate_at records.now slot.0) ≡ true) }
+    requires room { 16 * (swept.steps + length (commuting_ahead records.now work.old k slot.0).steps) ≤ length journal.old }
+    requires few_looks { swept.looks + (commuting_ahead records.now work.old k slot.0).looks < 2 ^ 64 }
     ensures live { Live records.now work.new k }
     ensures went { Went (commuting_ahead records.now work.old k slot.0) (commuting_ahead records.now work.new k (slot.0 + 1)) (result.looks - swept.looks) swept.steps result.steps journal.old journal.new }
     ensures more { swept.looks ≤ result.looks }
     ensures within { Within 0 (words_for k) work.old work.new }
 {
-    let paired = pairs::pair_of(asking::gate_at(records, slot));
-    let Paired::Pair(pair) = paired else {
+    let Some(pair) = pairs::pair_of(asking::gate_at(records, slot)) else {
         return swept;
     };
-    let partner = asking::partner(records, work, k, slot);
-    let Found::At(other) = partner else {
+    let list = LiveList {
+        records,
+        work,
+        extent: k,
+    };
+    let Some(other) = list.partner(slot) else {
         return swept;
     };
-    let walked = walk::walk_past(records, work, k, slot, other, pair);
+    let walked = walk::walk_past(&list, slot, other, pair);
     let looks = swept.looks + walked.looks;
-    let ending = walked.ending;
-    match ending {
+    match walked.ending {
         Ending::Blocked => Swept {
             steps: swept.steps,
             looks,
         },
         Ending::Reached => {
-            journal::take_pair(records, work, journal, k, 2, slot, other, swept.steps);
+            let kind = StepKind::Commuting.number();
+            journal::take_pair(records, work, journal, k, kind, slot, other, swept.steps);
             Swept {
                 steps: swept.steps + 1,
                 looks,
@@ -74,16 +79,21 @@ fn cancel_at(
     slot: Slot,
     swept: Swept,
 ) -> Swept
-    requires live_2 { Live records.now work.old k }
-    requires slot_lt_gates { slot.0 < k.gates }
-    requires slot_in_bounds { 16 * (swept.steps + length (commuting_ahead records.now work.old k slot.0).steps) ≤ length journal.old }
-    requires slot_bound { swept.looks + (commuting_ahead records.now work.old k slot.0).looks < 2 ^ 64 }
+    requires live { Live records.now work.old k }
+    requires slot_there { slot.0 < k.gates }
+    requires room { 16 * (swept.steps + length (commuting_ahead records.now work.old k slot.0).steps) ≤ length journal.old }
+    requires few_looks { swept.looks + (commuting_ahead records.now work.old k slot.0).looks < 2 ^ 64 }
     ensures live { Live records.now work.new k }
     ensures went { Went (commuting_ahead records.now work.old k slot.0) (commuting_ahead records.now work.new k (slot.0 + 1)) (result.looks - swept.looks) swept.steps result.steps journal.old journal.new }
     ensures more { swept.looks ≤ result.looks }
     ensures within { Within 0 (words_for k) work.old work.new }
 {
-    if asking::is_live(records, work, k, slot) {
+    let loaded = LoadedList {
+        records,
+        work,
+        extent: k,
+    };
+    if loaded.is_live(slot) {
         let kind = asking::kind_at(records, slot);
         if (8 <= kind) & (kind <= 11) {
             return try_partner(records, work, journal, k, slot, swept);
@@ -100,9 +110,9 @@ pub fn cancel_commuting_pairs(
     k: Extent,
     steps: usize,
 ) -> Swept
-    requires live_2 { Live records.now work.old k }
-    requires k_in_bounds { 16 * (steps + length (commuting_sweep (held records.now work.old k)).steps) ≤ length journal.old }
-    requires k_bound { (commuting_sweep (held records.now work.old k)).looks < 2 ^ 64 }
+    requires live { Live records.now work.old k }
+    requires room { 16 * (steps + length (commuting_sweep (held records.now work.old k)).steps) ≤ length journal.old }
+    requires few_looks { (commuting_sweep (held records.now work.old k)).looks < 2 ^ 64 }
     ensures live { Live records.now work.new k }
     ensures did { Did (commuting_sweep (held records.now work.old k)) (held records.now work.new k) steps result.steps journal.old journal.new }
     ensures looked { result.looks ≡ (commuting_sweep (held records.now work.old k)).looks }

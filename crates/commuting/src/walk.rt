@@ -4,32 +4,32 @@ ghost use Rattle.gates.specs.Gates.{wires_of};
 ghost use Rattle.rules.specs.Equal.{equal};
 ghost use Rattle.rules.specs.Sweeps.{walk_past};
 ghost use Rattle.leaves.specs.Answers.{pair_of, as_gate};
-ghost use Rattle.leaves.specs.declared.pairs.Paired.{Paired};
 ghost use Rattle.slots.specs.Slots.{gate_at, cells_from};
-ghost use Rattle.slots.specs.Live.{is_live, Live};
+ghost use Rattle.slots.specs.Live.{is_live};
 ghost use Rattle.commuting.specs.Walking.{as_walk, look_at, node_of, starts_of};
 
+use asking::linked::LiveList;
+use gates::Wire;
 use gates::records::Record;
-use gates::{Position, Wire, records};
 use leaves::pairs::CommutingPair;
 use passing::quick;
 use passing::quick::Past;
-use slots::{Extent, Slot};
+use slots::Slot;
 
-#[derive(Clone, Copy)]
+#[derive(Clone, Copy, PartialEq, Eq)]
 pub enum Ending {
     Reached,
     Blocked,
 }
 
 // How a walk ended, and the gates that it looked at.
-#[derive(Clone, Copy)]
+#[derive(Clone, Copy, PartialEq, Eq)]
 pub struct Walked {
     pub ending: Ending,
     pub looks: u64,
 }
 
-#[derive(Clone, Copy)]
+#[derive(Clone, Copy, PartialEq, Eq)]
 pub enum Seen {
     Partner,
     Passed(usize),
@@ -41,11 +41,11 @@ fn look(records: &[u8], work: &[u32], past: Past, partner: Slot, node: usize) ->
     requires { (node < length work.now) × (16 * (node / 3) + 16 ≤ length records.now) × (node / 3 < 1048576) }
     ensures { result ≡ look_at records.now work.now past partner.0 node }
 {
-    let slot = node / 3;
-    if slot == partner.0 {
+    let slot = Slot(node / 3);
+    if slot == partner {
         return Seen::Partner;
     }
-    if quick::may_pass(past, records::record_at(records, Position(slot as u32))) {
+    if quick::may_pass(past, slot.record(records)) {
         Seen::Passed(work[node] as usize)
     } else {
         Seen::Blocker
@@ -98,23 +98,18 @@ fn operands(pair: CommutingPair) -> usize
     }
 }
 
-// The walk from a pair to its partner. A node of 0, which no gate behind another has, is a finished track's.
-pub fn walk_past(
-    records: &[u8],
-    work: &[u32],
-    k: Extent,
-    slot: Slot,
-    partner: Slot,
-    pair: CommutingPair,
-) -> Walked
-    requires live { Live records.now work.now k }
-    requires slot_value { (is_live work.now k slot.0 ≡ true) × (is_live work.now k partner.0 ≡ true) × (slot.0 < partner.0) }
-    requires slot_value_2 { (pair_of (gate_at records.now slot.0) ≡ Paired.Pair pair) × (equal (gate_at records.now slot.0) (gate_at records.now partner.0) ≡ true) }
-    ensures result_value { as_walk result ≡ walk_past (gate_at records.now slot.0) (cells_from (is_live work.now k) (gate_at records.now) (suc slot.0) (partner.0 - suc slot.0)) }
-    ensures few { result.looks ≤ 3 * k.gates }
+// The walk from a pair to its partner. A node of 0, which no gate behind another has, is a finished track's: nodes are words, and
+// an Option would be made and taken apart at each look.
+pub fn walk_past(list: &LiveList, slot: Slot, partner: Slot, pair: CommutingPair) -> Walked
+    requires both_live { (is_live list.now.work.now list.now.extent slot.0 ≡ true) × (is_live list.now.work.now list.now.extent partner.0 ≡ true) × (slot.0 < partner.0) }
+    requires partners { (pair_of (gate_at list.now.records.now slot.0) ≡ Some pair) × (equal (gate_at list.now.records.now slot.0) (gate_at list.now.records.now partner.0) ≡ true) }
+    ensures walked { as_walk result ≡ walk_past (gate_at list.now.records.now slot.0) (cells_from (is_live list.now.work.now list.now.extent) (gate_at list.now.records.now) (suc slot.0) (partner.0 - suc slot.0)) }
+    ensures few { result.looks ≤ 3 * list.now.extent.gates }
 {
+    let records = list.records;
+    let work = list.work;
     let past = quick::past_of(pair);
-    let r = records::record_at(records, Position(slot.0 as u32));
+    let r = slot.record(records);
     let count = operands(pair);
     let mut at = starts(work, slot, r, pair);
     let mut open = count;

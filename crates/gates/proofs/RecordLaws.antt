@@ -1,5 +1,6 @@
 -- Records and gates: which words a kind uses, and that decoding and encoding undo each other.
-use mathlib.Core.Path.{◌≡◌, refl, ap, sym, ◌∙◌}
+use Rattle.std.specs.Prelude.{Result, Ok, Err}
+use mathlib.Core.Path.{◌≡◌, ap, sym, ◌∙◌}
 use mathlib.Core.Bool.{Bool, true, false, ◌&&◌, ◌||◌, and-true, and_assoc}
 use mathlib.Core.List.{[], ◌∷◌}
 use Prim.Native.Nat.{ℕ, zero, suc, ◌≤◌, ◌<◌}
@@ -10,13 +11,13 @@ use lib.ListN.{drop}
 use borrow.Author.Tests.{ne_eqb}
 use Rattle.gates.proofs.Joined.{and_both}
 use Rattle.gates.proofs.Table.{at}
-use Rattle.gates.proofs.KindLaws.{named, unknown-named}
+use Rattle.gates.proofs.KindLaws.{named, unknown_named}
 use Rattle.gates.specs.declared.Gate.{Gate}
 use Rattle.gates.specs.declared.kinds.Row.{Row}
 use Rattle.gates.specs.declared.records.Record.{Record}
-use Rattle.gates.specs.declared.records.Decoded.{Decoded}
+use Rattle.gates.specs.declared.records.NoGate.{NoGate}
 use Rattle.gates.specs.Kinds.{Shape, on1, on2, on3, on_bit, angled, unknown, shapes, shape_of, wires_in, row_of}
-use Rattle.gates.specs.Records.{used_of, unused_of, all_zero, when_clean, gate_of}
+use Rattle.gates.specs.Records.{used_of, unused_of, all_zero, gate_of}
 
 -- ------------------------------------------------------------ the words that a kind uses
 
@@ -33,9 +34,9 @@ operands-small kind h =
 pub row_small : (row : Row) (kind : ℕ) → row ≡ row_of kind → kind < 27 → (1 ≤ row.operands) × (row.operands ≤ 3)
 row_small row kind e h = rw e (operands-small kind h)
 
-pub used-wires : (kind : ℕ) → (kind ≡ 12 → ⊥) → used_of kind ≡ wires_in (shape_of kind)
+pub used_wires : (kind : ℕ) → (kind ≡ 12 → ⊥) → used_of kind ≡ wires_in (shape_of kind)
 unfolding used_of
-used-wires kind no12 = rw (ne_eqb kind 12 no12)
+used_wires kind no12 = rw (ne_eqb kind 12 no12)
 
 -- a count from 1 to 3 is one of three
 pub one-to-three : (P : ℕ → Type 0) → P 1 → P 2 → P 3 → (n : ℕ) → 1 ≤ n → n ≤ 3 → P n
@@ -58,48 +59,33 @@ unfolding all_zero
 zero_test r = one-to-three (ZeroTest r) (simp (and_assoc, and-true)) (simp and-true) (simp and-true)
 
 -- the test of the code goes by the count of used words
-pub unused-by-count : (r : Record) (used : ℕ) → used ≡ used_of r.kind → 1 ≤ used → used ≤ 3
+pub unused_by_count : (r : Record) (used : ℕ) → used ≡ used_of r.kind → 1 ≤ used → used ≤ 3
     → (eqb r.padding 0 && (leb 2 used || eqb r.second 0) && (leb 3 used || eqb r.third 0)) ≡ all_zero (unused_of r)
 unfolding unused_of
-unused-by-count r used e low high =
+unused_by_count r used e low high =
     zero_test r used low high ∙ ap (λ (n : ℕ). all_zero (r.padding ∷ drop n (r.first ∷ r.second ∷ r.third ∷ []))) e
 
 -- ------------------------------------------------------------ the gate of a record
 
-never : (d : Decoded) (g : Gate) → d ≡ Decoded.Gate g → d ≡ Decoded.Unknown → ⊥
+never : (d : Result Gate NoGate) (g : Gate) → d ≡ Ok g → d ≡ Err NoGate.Unknown → ⊥
 never d g p q = let z : ◌≡◌ {A = ℕ} 0 1 = cc in omega arith
 
 below-27 : (kind : ℕ) → (27 ≤ kind → ⊥) → kind < 27
 below-27 kind not-past = omega arith
 
-pub gate-kind : (r : Record) (g : Gate) → named r ≡ Decoded.Gate g → r.kind < 27
-gate-kind r g e = below-27 r.kind (λ h. never (named r) g e (unknown-named r.kind r.first r.second r.third h))
+pub gate_kind : (r : Record) (g : Gate) → named r ≡ Ok g → r.kind < 27
+gate_kind r g e = below-27 r.kind (λ h. never (named r) g e (unknown_named r.kind r.first r.second r.third h))
 
-gate-by : (r : Record) (d : Decoded) (clean : Bool) → d ≡ named r → all_zero (unused_of r) ≡ clean → when_clean clean d ≡ gate_of r
+pub gate_refused : (r : Record) (why : NoGate) → Err why ≡ named r → Err why ≡ gate_of r
 unfolding gate_of
-gate-by r d clean e z = rw (e, ← z)
-
-pub gate-clean : (r : Record) (d : Decoded) (g : Gate) → d ≡ named r → d ≡ Decoded.Gate g → all_zero (unused_of r) ≡ true → d ≡ gate_of r
-gate-clean r d g e q z = q ∙ gate-by r (Decoded.Gate g) true (sym q ∙ e) z
-
-pub gate-unclean : (r : Record) (d : Decoded) (g : Gate) → d ≡ named r → d ≡ Decoded.Gate g → all_zero (unused_of r) ≡ false → Decoded.NotZero ≡ gate_of r
-gate-unclean r d g e q z = gate-by r (Decoded.Gate g) false (sym q ∙ e) z
-
-pub gate-angle : (r : Record) (d : Decoded) → d ≡ named r → d ≡ Decoded.Angle → Decoded.Angle ≡ gate_of r
-gate-angle r d e q = gate-by r Decoded.Angle (all_zero (unused_of r)) (sym q ∙ e) refl
-
-pub gate-unknown : (r : Record) (d : Decoded) → d ≡ named r → d ≡ Decoded.Unknown → Decoded.Unknown ≡ gate_of r
-gate-unknown r d e q = gate-by r Decoded.Unknown (all_zero (unused_of r)) (sym q ∙ e) refl
-
-pub gate-not-zero : (r : Record) (d : Decoded) → d ≡ named r → d ≡ Decoded.NotZero → Decoded.NotZero ≡ gate_of r
-gate-not-zero r d e q = gate-by r Decoded.NotZero (all_zero (unused_of r)) (sym q ∙ e) refl
+gate_refused r why e = rw (← e)
 
 -- ------------------------------------------------------------ what a decoded record's kind is
 
-pub gate-past-26 : (r : Record) → 27 ≤ r.kind → gate_of r ≡ Decoded.Unknown
-gate-past-26 r h = sym (gate-unknown r (named r) refl (unknown-named r.kind r.first r.second r.third h))
+pub gate-past-26 : (r : Record) → 27 ≤ r.kind → gate_of r ≡ Err NoGate.Unknown
+gate-past-26 r h = sym (gate_refused r NoGate.Unknown (sym (unknown_named r.kind r.first r.second r.third h)))
 
-pub known-kind : (r : Record) (g : Gate) → gate_of r ≡ Decoded.Gate g → r.kind < 27
+pub known-kind : (r : Record) (g : Gate) → gate_of r ≡ Ok g → r.kind < 27
 known-kind r g e = below-27 r.kind (λ h. never (gate_of r) g e (gate-past-26 r h))
 
 abbrev pub is_known : Shape → Bool

@@ -1,4 +1,5 @@
 -- Decoding and encoding undo each other, on gates, on records and on bytes.
+use Rattle.std.specs.Prelude.{Result, Ok, Err}
 use mathlib.Core.Path.{◌≡◌, refl, ap, subst, sym, ◌∙◌}
 use mathlib.Core.Bool.{Bool, true, false}
 use mathlib.Core.List.{List, [], ◌∷◌}
@@ -16,7 +17,7 @@ use Rattle.gates.specs.declared.Bit.{Bit}
 use Rattle.gates.specs.declared.Gate.{Gate}
 use Rattle.gates.specs.declared.Gate.TheVariants.{X, H, S, Sdg, Z, T, Tdg, Cnot, Cz, Ccx, Ccz, Measure, Reset, Y, Sx, Swap, Cy, Ch, Cswap}
 use Rattle.gates.specs.declared.records.Record.{Record}
-use Rattle.gates.specs.declared.records.Decoded.{Decoded}
+use Rattle.gates.specs.declared.records.NoGate.{NoGate}
 use Rattle.gates.specs.Kinds.{Shape, on1, on2, on3, on_bit, angled, unknown, shapes, shape_of, wires_in}
 use Rattle.gates.specs.Gates.{wire, bit, wires_of}
 use Rattle.gates.specs.Words.{byte_at, word_at, bytes_of}
@@ -106,13 +107,11 @@ unfolding unused_of
 unused-zero r used e z = zero-first r.padding (drop used (words r)) (rw e at z)
 
 -- a gate comes only of a gate, and only where the test passed
-clean-gate : (clean : Bool) (d : Decoded) (g : Gate) → when_clean clean d ≡ Decoded.Gate g
-    → (clean ≡ true) × (d ≡ Decoded.Gate g)
-clean-gate true (Decoded.Gate h) g e = (refl, e)
-clean-gate false (Decoded.Gate h) g e = ((cc), (cc))
-clean-gate clean Decoded.Angle g e = ((cc), (cc))
-clean-gate clean Decoded.Unknown g e = ((cc), (cc))
-clean-gate clean Decoded.NotZero g e = ((cc), (cc))
+clean-gate : (clean : Bool) (d : Result Gate NoGate) (g : Gate) → when_clean clean d ≡ Ok g
+    → (clean ≡ true) × (d ≡ Ok g)
+clean-gate true (Ok h) g e = (refl, e)
+clean-gate false (Ok h) g e = ((cc), (cc))
+clean-gate clean (Err why) g e = ((cc), (cc))
 
 -- a clean record has the words that it uses and zeros
 zeroed : (r : Record) (second third : ℕ) → r.padding ≡ 0 → r.second ≡ second → r.third ≡ third
@@ -137,7 +136,7 @@ used-three : (r : Record) → all_zero (unused_of r) ≡ true → used_of r.kind
     → with_words r.kind r.first r.second r.third ≡ r
 used-three r z e = zeroed r r.second r.third (unused-zero r 3 e z).0 refl refl
 
-named-has : (s : Shape) (r : Record) (g : Gate) → Fit r.kind s → all_zero (unused_of r) ≡ true → decoded_as s r.first r.second r.third ≡ Decoded.Gate g
+named-has : (s : Shape) (r : Record) (g : Gate) → Fit r.kind s → all_zero (unused_of r) ≡ true → decoded_as s r.first r.second r.third ≡ Ok g
     → Has g r (take (wires_in s) (words r))
 named-has (on1 f) r g fits z e = let same = used-one r z fits.0 in let has = fits.1 (wire r.first) in ((cc), (cc))
 named-has (on2 f) r g fits z e =
@@ -149,7 +148,7 @@ named-has (on_bit f) r g fits z e =
 named-has (angled n) r g fits z e = ((cc), (cc))
 named-has unknown r g fits z e = ((cc), (cc))
 
-decoded-has : (r : Record) (g : Gate) → gate_of r ≡ Decoded.Gate g → Has g r (take (wires_in (shape_of r.kind)) (words r))
+decoded-has : (r : Record) (g : Gate) → gate_of r ≡ Ok g → Has g r (take (wires_in (shape_of r.kind)) (words r))
 unfolding gate_of named_by
 decoded-has r g e =
     let clean = clean-gate (all_zero (unused_of r)) (named r) g e in
@@ -157,7 +156,7 @@ decoded-has r g e =
 
 -- ------------------------------------------------------------ gates and records
 
-pub decode-encode : (g : Gate) → gate_of (record_of g) ≡ Decoded.Gate g
+pub decode-encode : (g : Gate) → gate_of (record_of g) ≡ Ok g
 unfolding gate_of record_of named_by unused_of used_of all_zero shape_of shapes
 decode-encode (X w) = refl
 decode-encode (H w) = refl
@@ -181,15 +180,15 @@ decode-encode (Cswap c a b) = refl
 
 -- a gate is the one that its kind and the words of its record name
 pub named-by-record : (g : Gate) →
-    named_by (kind_of g) (record_of g).first (record_of g).second (record_of g).third ≡ Decoded.Gate g
+    named_by (kind_of g) (record_of g).first (record_of g).second (record_of g).third ≡ Ok g
 unfolding gate_of
 named-by-record g = (clean-gate (all_zero (unused_of (record_of g))) (named (record_of g)) g (decode-encode g)).1
 
-pub encode-decode : (r : Record) (g : Gate) → gate_of r ≡ Decoded.Gate g → record_of g ≡ r
+pub encode-decode : (r : Record) (g : Gate) → gate_of r ≡ Ok g → record_of g ≡ r
 encode-decode r g e = (decoded-has r g e).0
 
 -- the wires of a gate are the first words of its record, as many as the table of kinds says
-pub wires-words : (r : Record) (g : Gate) → gate_of r ≡ Decoded.Gate g
+pub wires-words : (r : Record) (g : Gate) → gate_of r ≡ Ok g
     → wires_of g ≡ take (wires_in (shape_of r.kind)) (r.first ∷ r.second ∷ r.third ∷ [])
 wires-words r g e = (decoded-has r g e).1
 
@@ -230,10 +229,10 @@ bytes-of-record bytes at room small =
 
 -- ------------------------------------------------------------ gates and bytes
 
-pub gate-of-bytes : (g : Gate) → Fitting (record_of g) → gate_of (record_from (record_bytes (record_of g)) 0) ≡ Decoded.Gate g
+pub gate-of-bytes : (g : Gate) → Fitting (record_of g) → gate_of (record_from (record_bytes (record_of g)) 0) ≡ Ok g
 gate-of-bytes g fits = ap gate_of (record-of-bytes (record_of g) fits) ∙ decode-encode g
 
 pub bytes-of-gate : (bytes : List ℕ) (at : ℕ) (g : Gate) → at + 16 ≤ length bytes → ((i : ℕ) → byte_at bytes i < 256)
-    → gate_of (record_from bytes at) ≡ Decoded.Gate g → record_bytes (record_of g) ≡ take 16 (drop at bytes)
+    → gate_of (record_from bytes at) ≡ Ok g → record_bytes (record_of g) ≡ take 16 (drop at bytes)
 bytes-of-gate bytes at g room small e =
     ap record_bytes (encode-decode (record_from bytes at) g e) ∙ bytes-of-record bytes at room small

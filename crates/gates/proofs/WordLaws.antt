@@ -1,23 +1,35 @@
 -- Words and their bytes.
-use mathlib.Core.Path.{◌≡◌, ap, sym, ◌∙◌}
-use mathlib.Core.List.{List, [], ◌∷◌, ◌++◌}
+use Rattle.std.proofs.lemmas.Slice.{put_mid-paste}
+use Rattle.std.proofs.lemmas.List.Edits.{paste_all, sets-eq}
+use mathlib.Core.Path.{◌≡◌, refl, ap, sym, ◌∙◌}
+use borrow.Rule.Slice.PartMut.{put_mid}
+use mathlib.Core.List.{List, [], ◌∷◌, ◌++◌, append_assoc}
 use Prim.Native.Nat.{ℕ, suc, ◌+◌, ◌*◌, ◌/◌, ◌%◌, ◌^◌, ◌≤◌, ◌<◌}
 use native.Mathlib.Nat.{add-zero, add-suc, suc-add, mod-eq_of_lt}
 use native.Mathlib.Numerals.{towards_suc}
 use native.Mathlib.Omega.{arith}
 use lib.ListN.{length, take, drop, set}
 use lib.Seq.{drop-cons, take-add, drop-drop, sets}
+use Rattle.gates.specs.declared.records.Record.{Record}
 use Rattle.gates.specs.Words.{byte_at, word_at, bytes_of}
+use Rattle.gates.specs.Records.{record_from, record_bytes}
 
 -- the first byte of a word, and the three behind it
-pub word_first : (bytes : List ℕ) (at : ℕ) → byte_at bytes at < 256 → word_at bytes at % 256 ≡ byte_at bytes at
+word_first : (bytes : List ℕ) (at : ℕ) → byte_at bytes at < 256 → word_at bytes at % 256 ≡ byte_at bytes at
 unfolding word_at
 word_first bytes at h = omega arith
 
-pub word-rest : (bytes : List ℕ) (at : ℕ) → byte_at bytes at < 256
+word-rest : (bytes : List ℕ) (at : ℕ) → byte_at bytes at < 256
     → word_at bytes at / 256 ≡ byte_at bytes (at + 1) + 256 * byte_at bytes (at + 2) + 65536 * byte_at bytes (at + 3)
 unfolding word_at
 word-rest bytes at h = omega arith
+
+-- a record's kind and the bytes behind it from their word
+pub record_read : (bytes : List ℕ) (at head first second third : ℕ) → byte_at bytes at < 256 → head ≡ word_at bytes at
+    → first ≡ word_at bytes (at + 4) → second ≡ word_at bytes (at + 8) → third ≡ word_at bytes (at + 12)
+    → ◌≡◌ {A = Record} (record { kind = head % 256; padding = head / 256; first = first; second = second; third = third }) (record_from bytes at)
+unfolding record_from
+record_read bytes at head first second third small e e₁ e₂ e₃ = rw (e, e₁, e₂, e₃, word_first bytes at small, word-rest bytes at small)
 
 -- ------------------------------------------------------------ a word from its bytes, and its bytes back
 
@@ -75,6 +87,14 @@ word-before bytes at n room small = rw (word-taken bytes at room small, take-add
 
 -- ------------------------------------------------------------ stores one behind the other
 
+-- a word's four bytes in the place of a part of a list are its bytes stored there
+pub word_stored : (l ws : List ℕ) (at k word : ℕ) → ws ≡ word % 256 ∷ word / 256 % 256 ∷ word / 65536 % 256 ∷ word / 16777216 % 256 ∷ []
+    → k ≡ 4 → at + 4 ≤ length l → put_mid at k l ws ≡ sets l at (bytes_of word)
+unfolding bytes_of
+word_stored l ws at k word same long room =
+    let bytes = bytes_of word in
+    rw (put_mid-paste at k l ws bytes 4 same (sym long) refl, paste_all l at bytes 4 refl, sets-eq bytes l at room, append_assoc)
+
 pub sets-append : (l xs ys : List ℕ) (at : ℕ) → sets l at (xs ++ ys) ≡ sets (sets l at xs) (at + length xs) ys
 sets-append l [] ys at = rw add-zero
 sets-append l (x ∷ xs) ys at = rw (add-suc, ← suc-add) (sets-append (set l at x) xs ys (suc at))
@@ -94,3 +114,10 @@ four-words l at a b c d {l₁} {l₂} {l₃} e₁ e₂ e₃ e₄ =
     word-then l at a (bytes_of b ++ (bytes_of c ++ bytes_of d)) e₁
     (word-then l₁ (at + 4) b (bytes_of c ++ bytes_of d) e₂
     (word-then l₂ (at + 4 + 4) c (bytes_of d) (rw p at e₃) (rw q at e₄)))
+
+-- a record's four words, stored one behind the other
+pub record_stored : (l : List ℕ) (at : ℕ) (r : Record) {l₁ l₂ l₃ l₄ : List ℕ}
+    → l₁ ≡ sets l at (bytes_of (r.kind + 256 * r.padding)) → l₂ ≡ sets l₁ (at + 4) (bytes_of r.first)
+    → l₃ ≡ sets l₂ (at + 8) (bytes_of r.second) → l₄ ≡ sets l₃ (at + 12) (bytes_of r.third) → l₄ ≡ sets l at (record_bytes r)
+unfolding record_bytes
+record_stored l at r e₁ e₂ e₃ e₄ = four-words l at (r.kind + 256 * r.padding) r.first r.second r.third e₁ e₂ e₃ e₄

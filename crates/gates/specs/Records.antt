@@ -1,9 +1,9 @@
 -- Records: the bytes of a gate, and the gate of some bytes or why they are none. Document 01, "Records".
-use Rattle.std.specs.Prelude.{Bool, true, cond, ◌&&◌, List, [], ◌∷◌, ◌++◌, ℕ, ◌+◌, ◌*◌, eqb, take, drop}
+use Rattle.std.specs.Prelude.{Result, Ok, Err, Bool, true, cond, ◌&&◌, List, [], ◌∷◌, ◌++◌, ℕ, ◌+◌, ◌*◌, eqb, take, drop}
 use Rattle.gates.specs.declared.Gate.{Gate}
 use Rattle.gates.specs.declared.Gate.TheVariants.{X, H, S, Sdg, Z, T, Tdg, Cnot, Cz, Ccx, Ccz, Measure, Reset, Y, Sx, Swap, Cy, Ch, Cswap}
 use Rattle.gates.specs.declared.records.Record.{Record}
-use Rattle.gates.specs.declared.records.Decoded.{Decoded}
+use Rattle.gates.specs.declared.records.NoGate.{NoGate}
 use Rattle.gates.specs.Kinds.{Shape, on1, on2, on3, on_bit, angled, unknown, shape_of, wires_in}
 use Rattle.gates.specs.Gates.{wire, bit}
 use Rattle.gates.specs.Words.{byte_at, word_at, bytes_of}
@@ -45,27 +45,25 @@ unfoldable pub all_zero : List ℕ → Bool
 all_zero [] = true
 all_zero (x ∷ xs) = eqb x 0 && all_zero xs
 
-abbrev pub decoded_as : Shape → ℕ → ℕ → ℕ → Decoded
-decoded_as (on1 f) a b c = Decoded.Gate (f (wire a))
-decoded_as (on2 f) a b c = Decoded.Gate (f (wire a) (wire b))
-decoded_as (on3 f) a b c = Decoded.Gate (f (wire a) (wire b) (wire c))
-decoded_as (on_bit f) a b c = Decoded.Gate (f (wire a) (bit b))
-decoded_as (angled n) a b c = Decoded.Angle
-decoded_as unknown a b c = Decoded.Unknown
+abbrev pub decoded_as : Shape → ℕ → ℕ → ℕ → Result Gate NoGate
+decoded_as (on1 f) a b c = Ok (f (wire a))
+decoded_as (on2 f) a b c = Ok (f (wire a) (wire b))
+decoded_as (on3 f) a b c = Ok (f (wire a) (wire b) (wire c))
+decoded_as (on_bit f) a b c = Ok (f (wire a) (bit b))
+decoded_as (angled n) a b c = Err NoGate.Angle
+decoded_as unknown a b c = Err NoGate.Unknown
 
 -- The gate that a kind number and three words name; or that the kind carries an angle, or is none.
-unfoldable pub named_by : ℕ → ℕ → ℕ → ℕ → Decoded
+unfoldable pub named_by : ℕ → ℕ → ℕ → ℕ → Result Gate NoGate
 named_by kind first second third = decoded_as (shape_of kind) first second third
 
 -- A gate only where what must be zero is.
-abbrev pub when_clean : Bool → Decoded → Decoded
-when_clean clean (Decoded.Gate g) = cond clean (Decoded.Gate g) Decoded.NotZero
-when_clean clean Decoded.Angle = Decoded.Angle
-when_clean clean Decoded.Unknown = Decoded.Unknown
-when_clean clean Decoded.NotZero = Decoded.NotZero
+abbrev pub when_clean : Bool → Result Gate NoGate → Result Gate NoGate
+when_clean clean (Ok g) = cond clean (Ok g) (Err NoGate.NotZero)
+when_clean clean (Err why) = Err why
 
 -- The gate of a record, or why it is none: an angle, an unknown kind, or an unused byte or word that is not zero.
-unfoldable pub gate_of : Record → Decoded
+unfoldable pub gate_of : Record → Result Gate NoGate
 gate_of r = when_clean (all_zero (unused_of r)) (named_by r.kind r.first r.second r.third)
 
 -- ------------------------------------------------------------ from a gate to bytes

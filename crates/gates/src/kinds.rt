@@ -65,6 +65,7 @@ const KINDS: [Row; 27] = [
     THREE, // 26 cswap
 ];
 
+// By the number: document 01 asks for a table with a row for each code.
 pub fn row_of(kind: u8) -> Row
     requires { kind < 27 }
     ensures { result ≡ row_of kind }

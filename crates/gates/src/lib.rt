@@ -6,17 +6,17 @@ pub mod records;
 pub mod words;
 
 // A wire, a classical bit and a list position are all small whole numbers; three types keep them apart.
-#[derive(Clone, Copy)]
+#[derive(Clone, Copy, PartialEq, Eq, PartialOrd, Ord)]
 pub struct Wire(pub u32);
 
-#[derive(Clone, Copy)]
+#[derive(Clone, Copy, PartialEq, Eq, PartialOrd, Ord)]
 pub struct Bit(pub u32);
 
-#[derive(Clone, Copy)]
+#[derive(Clone, Copy, PartialEq, Eq, PartialOrd, Ord)]
 pub struct Position(pub u32);
 
 // The kinds without an angle, in the order and with the fields of the source's enum `Gate`.
-#[derive(Clone, Copy)]
+#[derive(Clone, Copy, PartialEq, Eq)]
 pub enum Gate {
     X(Wire),
     H(Wire),

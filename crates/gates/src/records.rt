@@ -4,9 +4,11 @@ ghost use Rattle.std.proofs.lemmas.List.Edits.{sets};
 ghost use Rattle.gates.specs.Records.{record_at, named_by, gate_of, record_of, record_bytes, used_of, unused_of, all_zero, with_words};
 
 use crate::{Bit, Gate, Position, Wire, kinds, words};
+use std::fmt;
 
-// The fields of a record, in the order of its bytes.
-#[derive(Clone, Copy)]
+// The fields of a record, in the order of its bytes. The kind stays the number that a list holds: document 01 asks for a match on
+// it, and the sweeps decide by it, since to decode each gate costs more (DECISIONS 53).
+#[derive(Clone, Copy, PartialEq, Eq)]
 pub struct Record {
     pub kind: u8,
     pub padding: u32,
@@ -15,16 +17,26 @@ pub struct Record {
     pub third: u32,
 }
 
-// The gate of a record, or why it is none.
-#[derive(Clone, Copy)]
-pub enum Decoded {
-    Gate(Gate),
+// Why a record is no gate: its kind carries an angle, or is none, or an unused byte or word is not zero.
+#[derive(Clone, Copy, PartialEq, Eq)]
+pub enum NoGate {
     Angle,
     Unknown,
     NotZero,
 }
 
+impl fmt::Display for NoGate {
+    fn fmt<W: fmt::Write>(&self, f: &mut fmt::Formatter<W>) -> fmt::Result {
+        f.write_str(match self {
+            NoGate::Angle => "the kind carries an angle",
+            NoGate::Unknown => "no kind has this code",
+            NoGate::NotZero => "an unused byte or word is not zero",
+        })
+    }
+}
+
 // The record at a position of a list.
+#[tactic(auto, using(crate::proofs::WordLaws::record_read))]
 pub fn record_at(bytes: &[u8], place: Position) -> Record
     requires { 16 * place.0 + 16 ≤ length bytes.now }
     ensures { result ≡ record_at bytes.now place.0 }
@@ -41,6 +53,7 @@ pub fn record_at(bytes: &[u8], place: Position) -> Record
 }
 
 // Writes a record at a position of a list.
+#[tactic(auto, using(crate::proofs::WordLaws::record_stored))]
 pub fn put_record(bytes: &mut [u8], place: Position, r: Record)
     requires { (16 * place.0 + 16 ≤ length bytes.old) × (r.padding < 2 ^ 24) }
     ensures { bytes.new ≡ sets bytes.old (16 * place.0) (record_bytes r) }
@@ -53,62 +66,64 @@ pub fn put_record(bytes: &mut [u8], place: Position, r: Record)
 }
 
 // The gate that a kind number and three words name; a measure's second word is its bit.
-fn named_by(kind: u8, a: Wire, b: Wire, c: Wire) -> Decoded
+#[tactic(auto, unfolding(crate::specs::Records::named_by, crate::specs::Kinds::shape_of, crate::specs::Kinds::shapes))]
+fn named_by(kind: u8, a: Wire, b: Wire, c: Wire) -> Result<Gate, NoGate>
     ensures { result ≡ named_by kind a.0 b.0 c.0 }
 {
     match kind {
-        0 => Decoded::Gate(Gate::X(a)),
-        1 => Decoded::Gate(Gate::H(a)),
-        2 => Decoded::Gate(Gate::S(a)),
-        3 => Decoded::Gate(Gate::Sdg(a)),
-        4 => Decoded::Gate(Gate::Z(a)),
-        5 => Decoded::Gate(Gate::T(a)),
-        6 => Decoded::Gate(Gate::Tdg(a)),
-        8 => Decoded::Gate(Gate::Cnot {
+        0 => Ok(Gate::X(a)),
+        1 => Ok(Gate::H(a)),
+        2 => Ok(Gate::S(a)),
+        3 => Ok(Gate::Sdg(a)),
+        4 => Ok(Gate::Z(a)),
+        5 => Ok(Gate::T(a)),
+        6 => Ok(Gate::Tdg(a)),
+        8 => Ok(Gate::Cnot {
             control: a,
             target: b,
         }),
-        9 => Decoded::Gate(Gate::Cz {
+        9 => Ok(Gate::Cz {
             control: a,
             target: b,
         }),
-        10 => Decoded::Gate(Gate::Ccx {
+        10 => Ok(Gate::Ccx {
             control1: a,
             control2: b,
             target: c,
         }),
-        11 => Decoded::Gate(Gate::Ccz {
+        11 => Ok(Gate::Ccz {
             control1: a,
             control2: b,
             target: c,
         }),
-        12 => Decoded::Gate(Gate::Measure {
+        12 => Ok(Gate::Measure {
             qubit: a,
             cbit: Bit(b.0),
         }),
-        13 => Decoded::Gate(Gate::Reset(a)),
-        15 => Decoded::Gate(Gate::Y(a)),
-        16 => Decoded::Gate(Gate::Sx(a)),
-        19 => Decoded::Gate(Gate::Swap(a, b)),
-        20 => Decoded::Gate(Gate::Cy {
+        13 => Ok(Gate::Reset(a)),
+        15 => Ok(Gate::Y(a)),
+        16 => Ok(Gate::Sx(a)),
+        19 => Ok(Gate::Swap(a, b)),
+        20 => Ok(Gate::Cy {
             control: a,
             target: b,
         }),
-        25 => Decoded::Gate(Gate::Ch {
+        25 => Ok(Gate::Ch {
             control: a,
             target: b,
         }),
-        26 => Decoded::Gate(Gate::Cswap {
+        26 => Ok(Gate::Cswap {
             control: a,
             first: b,
             second: c,
         }),
-        7 | 14 | 17..=18 | 21..=24 => Decoded::Angle,
-        27..=255 => Decoded::Unknown,
+        7 | 14 | 17..=18 | 21..=24 => Err(NoGate::Angle),
+        27..=255 => Err(NoGate::Unknown),
     }
 }
 
 // Whether bytes 1 to 3 and the unused words are zero.
+#[tactic(auto, using(crate::proofs::RecordLaws::unused_by_count))]
 fn unused_are_zero(r: Record) -> bool
     requires { r.kind < 27 }
     ensures { result ≡ all_zero (unused_of r) }
@@ -118,119 +133,86 @@ fn unused_are_zero(r: Record) -> bool
 }
 
 // How many words a kind uses: its wires, and the bit of a measure.
+#[tactic(auto, using(crate::proofs::RecordLaws::row_small, crate::proofs::RecordLaws::used_wires), unfolding(crate::specs::Records::used_of))]
 fn words_used(kind: u8) -> u8
     requires { kind < 27 }
     ensures { (result ≡ used_of kind) × (1 ≤ result) × (result ≤ 3) }
 {
     if kind == 12 {
-        return 2;
+        2
+    } else {
+        kinds::row_of(kind).operands
     }
-    let row = kinds::row_of(kind);
-    row.operands
 }
 
-// The gate of a record, or why it is none.
-pub fn gate_of(r: Record) -> Decoded
-    ensures { result ≡ gate_of r }
-{
-    let named = named_by(r.kind, Wire(r.first), Wire(r.second), Wire(r.third));
-    match named {
-        Decoded::Gate(_) => {
-            if unused_are_zero(r) {
-                named
-            } else {
-                Decoded::NotZero
-            }
+impl TryFrom<Record> for Gate {
+    type Error = NoGate;
+
+    ghost try_from_gives = { λ r g. g ≡ gate_of r };
+
+    // The gate of a record, or why it is none.
+    #[tactic(auto, using(crate::proofs::RecordLaws::gate_kind, crate::proofs::RecordLaws::gate_refused), unfolding(crate::specs::Records::gate_of))]
+    fn try_from(r: Record) -> Result<Gate, NoGate> {
+        let gate = named_by(r.kind, Wire(r.first), Wire(r.second), Wire(r.third))?;
+        if unused_are_zero(r) {
+            Ok(gate)
+        } else {
+            Err(NoGate::NotZero)
         }
-        Decoded::Angle => Decoded::Angle,
-        Decoded::Unknown => Decoded::Unknown,
-        Decoded::NotZero => Decoded::NotZero,
     }
 }
 
-// The record of a gate.
-pub fn record_of(g: Gate) -> Record
-    ensures { result ≡ record_of g }
-{
-    match g {
-        Gate::X(w) => on_one(0, w),
-        Gate::H(w) => on_one(1, w),
-        Gate::S(w) => on_one(2, w),
-        Gate::Sdg(w) => on_one(3, w),
-        Gate::Z(w) => on_one(4, w),
-        Gate::T(w) => on_one(5, w),
-        Gate::Tdg(w) => on_one(6, w),
-        Gate::Cnot { control, target } => on_two(8, control, target),
-        Gate::Cz { control, target } => on_two(9, control, target),
-        Gate::Ccx {
-            control1,
-            control2,
-            target,
-        } => on_three(10, control1, control2, target),
-        Gate::Ccz {
-            control1,
-            control2,
-            target,
-        } => on_three(11, control1, control2, target),
-        Gate::Measure { qubit, cbit } => with_bit(12, qubit, cbit),
-        Gate::Reset(w) => on_one(13, w),
-        Gate::Y(w) => on_one(15, w),
-        Gate::Sx(w) => on_one(16, w),
-        Gate::Swap(a, b) => on_two(19, a, b),
-        Gate::Cy { control, target } => on_two(20, control, target),
-        Gate::Ch { control, target } => on_two(25, control, target),
-        Gate::Cswap {
-            control,
-            first,
-            second,
-        } => on_three(26, control, first, second),
+impl From<Gate> for Record {
+    ghost from_gives = { λ g r. r ≡ record_of g };
+
+    // The record of a gate.
+    #[tactic(auto, unfolding(crate::specs::Records::record_of))]
+    fn from(g: Gate) -> Record {
+        match g {
+            Gate::X(w) => with_words(0, w.0, 0, 0),
+            Gate::H(w) => with_words(1, w.0, 0, 0),
+            Gate::S(w) => with_words(2, w.0, 0, 0),
+            Gate::Sdg(w) => with_words(3, w.0, 0, 0),
+            Gate::Z(w) => with_words(4, w.0, 0, 0),
+            Gate::T(w) => with_words(5, w.0, 0, 0),
+            Gate::Tdg(w) => with_words(6, w.0, 0, 0),
+            Gate::Cnot { control, target } => with_words(8, control.0, target.0, 0),
+            Gate::Cz { control, target } => with_words(9, control.0, target.0, 0),
+            Gate::Ccx {
+                control1,
+                control2,
+                target,
+            } => with_words(10, control1.0, control2.0, target.0),
+            Gate::Ccz {
+                control1,
+                control2,
+                target,
+            } => with_words(11, control1.0, control2.0, target.0),
+            Gate::Measure { qubit, cbit } => with_words(12, qubit.0, cbit.0, 0),
+            Gate::Reset(w) => with_words(13, w.0, 0, 0),
+            Gate::Y(w) => with_words(15, w.0, 0, 0),
+            Gate::Sx(w) => with_words(16, w.0, 0, 0),
+            Gate::Swap(a, b) => with_words(19, a.0, b.0, 0),
+            Gate::Cy { control, target } => with_words(20, control.0, target.0, 0),
+            Gate::Ch { control, target } => with_words(25, control.0, target.0, 0),
+            Gate::Cswap {
+                control,
+                first,
+                second,
+            } => with_words(26, control.0, first.0, second.0),
+        }
     }
 }
 
-fn on_one(kind: u8, a: Wire) -> Record
-    ensures { result ≡ with_words kind a.0 0 0 }
-{
-    Record {
-        kind,
-        padding: 0,
-        first: a.0,
-        second: 0,
-        third: 0,
-    }
-}
-
-fn on_two(kind: u8, a: Wire, b: Wire) -> Record
-    ensures { result ≡ with_words kind a.0 b.0 0 }
+// A record whose bytes 1 to 3 are zero.
+fn with_words(kind: u8, first: u32, second: u32, third: u32) -> Record
+    ensures { result ≡ with_words kind first second third }
 {
     Record {
         kind,
         padding: 0,
-        first: a.0,
-        second: b.0,
-        third: 0,
-    }
-}
-
-fn on_three(kind: u8, a: Wire, b: Wire, c: Wire) -> Record
-    ensures { result ≡ with_words kind a.0 b.0 c.0 }
-{
-    Record {
-        kind,
-        padding: 0,
-        first: a.0,
-        second: b.0,
-        third: c.0,
-    }
-}
-
-fn with_bit(kind: u8, a: Wire, bit: Bit) -> Record
-    ensures { result ≡ with_words kind a.0 bit.0 0 }
-{
-    Record {
-        kind,
-        padding: 0,
-        first: a.0,
-        second: bit.0,
-        third: 0,
+        first,
+        second,
+        third,
     }
 }

@@ -1,4 +1,5 @@
 -- What stands between the two h of a firing once it is placed: the first on the wire takes another gate and the others go, or all go.
+use Rattle.std.specs.Prelude.{Option as Answer, Some, None}
 use mathlib.Core.Path.{◌≡◌, refl, sym, ap, ap₂, subst, ◌∙◌}
 use mathlib.Core.Bool.{Bool, true, false, not, cond, ◌&&◌}
 use mathlib.Core.List.{List, [], ◌∷◌}
@@ -18,11 +19,9 @@ use Rattle.rules.specs.Sweeps.{cut}
 use Rattle.links.proofs.SeekLaws.{parted}
 use Rattle.slots.specs.declared.Extent.{Extent}
 use Rattle.slots.specs.declared.Slot.{Slot}
-use Rattle.slots.specs.declared.Found.{Found}
 use Rattle.slots.specs.Slots.{gate_at, cell_of, cells_from, slot_of, found}
 use Rattle.slots.specs.Live.{is_live, later}
 use Rattle.slots.proofs.StateLaws.{live_below}
-use Rattle.hadamards.specs.declared.closing.Put.{Put}
 use Rattle.hadamards.specs.Closings.{put_as}
 use Rattle.hadamards.specs.Firings.{Firing, closing_of}
 use Rattle.hadamards.specs.Placing.{DroppedOn, SameSlot, OneWire, Takes, Placed, Allowed, gap, PlacedBetween}
@@ -141,25 +140,26 @@ module _ (k : Extent) (w : ℕ) (f : Firing) (bytes words : List ℕ) (allowed :
   )
 
   -- The next on the first h's wire; and there is one.
-  pub opener-next : (r : Found) (s : Slot) → r ≡ Found.At s →
-      r ≡ found (slot_of (cut (touches (get_or (wires_of (gate_at bytes f.opener)) 0 0)) (later bytes words k f.opener))) → NextOn bytes words k w f.opener s.0
-  opener-next r s q e =
-      subst (λ (v : ℕ). NextOn bytes words k v f.opener s.0) opener-first
-      (next-on bytes words k (get_or (wires_of (gate_at bytes f.opener)) 0 0) f.opener (live_below words k f.opener allowed.opener-live) r s q e)
+  abbrev next_found : Answer Slot
+  next_found = found (slot_of (cut (touches (get_or (wires_of (gate_at bytes f.opener)) 0 0)) (later bytes words k f.opener)))
 
-  pub opener-alone : (r : Found) → r ≡ Found.Nothing →
-      r ≡ found (slot_of (cut (touches (get_or (wires_of (gate_at bytes f.opener)) 0 0)) (later bytes words k f.opener))) → ⊥
+  pub opener-next : (s : Slot) → Some s ≡ next_found → NextOn bytes words k w f.opener s.0
+  opener-next s e =
+      subst (λ (v : ℕ). NextOn bytes words k v f.opener s.0) opener-first
+      (next-on bytes words k (get_or (wires_of (gate_at bytes f.opener)) 0 0) f.opener (live_below words k f.opener allowed.opener-live) s e)
+
+  pub opener-alone : None ≡ next_found → ⊥
   opener-alone = next-there bytes words k (get_or (wires_of (gate_at bytes f.opener)) 0 0) f.opener f.closer gap-asked.1 gap-asked.3 gap-asked.2
 
   -- All on the wire between have gone.
-  pub dropped-between : (put : Put) → put ≡ Put.Nothing → (now : List ℕ) →
+  pub dropped-between : (put : Answer Gate) → put ≡ None → (now : List ℕ) →
       DroppedOn bytes k (get_or (wires_of (gate_at bytes f.opener)) 0 0) f.opener f.closer words now → PlacedBetween k w f (put_as put) bytes words bytes now
   dropped-between put is now h =
       record {
         between =
             off-cells (is_live words k) (is_live now k) (gate_at bytes) (gate_at bytes) w (suc f.opener) (f.closer - suc f.opener)
             (λ j a b. dropped-inside bytes k w f.opener f.closer words now on-wire j a (omega (arith, a, b))) (λ j a b. refl)
-            ∙ sym (put-none w (gap bytes words k f)) ∙ sym (ap (λ (p : Put). put_first w (put_as p) (gap bytes words k f)) is);
+            ∙ sym (put-none w (gap bytes words k f)) ∙ sym (ap (λ (p : Answer Gate). put_first w (put_as p) (gap bytes words k f)) is);
         outside = λ j out. record { live = dropped-outside bytes k w f.opener f.closer words now on-wire j out; gate = refl };
         others = others-dropped k w bytes words now f.opener f.closer on-wire gap-one-wire;
       }
@@ -167,7 +167,7 @@ module _ (k : Extent) (w : ℕ) (f : Firing) (bytes words : List ℕ) (allowed :
       on-wire : DroppedOn bytes k w f.opener f.closer words now
       on-wire = subst (λ (v : ℕ). DroppedOn bytes k v f.opener f.closer words now) opener-first h
 
-  module _ (put : Put) (g : Gate) (is : put ≡ Put.One g)
+  module _ (put : Answer Gate) (g : Gate) (is : put ≡ Some g)
       (agreed : (r : Rewrite) → closing_of w (later bytes words k f.opener) ≡ some (record { closer = f.closer; rewrite = r }) → put_as put ≡ r.first) where
     first_some : allowed.rewrite.first ≡ some g
     first_some = sym (agreed allowed.rewrite allowed.closes) ∙ ap put_as is
@@ -192,7 +192,7 @@ module _ (k : Extent) (w : ℕ) (f : Firing) (bytes words : List ℕ) (allowed :
 
       module _ (bytes' words' : List ℕ) (placed : Placed k x (put_as put) bytes words bytes' words') where
         takes : Takes k x (some g) bytes' words'
-        takes = subst (λ (p : Put). Takes k x (put_as p) bytes' words') is placed.here
+        takes = subst (λ (p : Answer Gate). Takes k x (put_as p) bytes' words') is placed.here
 
         here-one-wire : OneWire w (gate_at bytes' x)
         here-one-wire = subst (OneWire w) (sym takes.1) (put-one-wire g (ap put_as is))
@@ -220,7 +220,7 @@ module _ (k : Extent) (w : ℕ) (f : Firing) (bytes words : List ℕ) (allowed :
                   (omega (arith, first-between, next.past)) (λ j a b. next.clear j a b)
                   (λ j a b. out j (λ m. absurd (omega (arith, m, b))) ∙ (placed.other j (λ e. omega (arith, e, b))).live)
                   (λ j a b. inner j a (omega (arith, a, b, next.past))) (λ j d. (placed.other j d).gate)
-                  ∙ sym (ap (λ (p : Put). put_first w (put_as p) (gap bytes words k f)) is);
+                  ∙ sym (ap (λ (p : Answer Gate). put_first w (put_as p) (gap bytes words k f)) is);
               outside = λ j o. same_then k bytes words bytes' words' bytes' now j (placed.other j (λ e. apart j o e))
                   (record { live = out j (λ m. o (omega (arith, m, next.past))); gate = refl });
               others = others-then k w bytes words bytes' words' bytes' now

@@ -219,46 +219,7 @@ module _ (at g n w opener closer : ℕ) (was : List ℕ) where
               (λ e. omega arith) (λ e. omega arith) (λ e. c (omega arith));
         }
 
--- ------------------------------------------------------------ the code's stores
-
--- The link that the code computes from where the spare words start.
-abbrev link_from : ℕ → Extent → ℕ → List ℕ → ℕ
-link_from at k w was = link at k.gates k.wires w 0 0 was
-
-module _ (k : Extent) (at w : ℕ) (was : List ℕ) (is : at ≡ spare_at k) (few : k.gates ≤ 1048576) (narrow : k.wires ≤ 65536)
-    (small : word was (tails_at k) w ≤ k.gates) where
-  tail_within : get_or was (at + 2 * k.gates + k.wires + w) 0 ≤ k.gates
-  tail_within = subst (λ (x : ℕ). get_or was (x + 2 * k.gates + k.wires + w) 0 ≤ k.gates) (sym is) small
-
-  pub tail-small : get_or was (at + 2 * k.gates + k.wires + w) 0 ≤ 1048576
-  tail-small = omega (arith, tail_within, few)
-
-  pub spare-small : at ≤ 33554432
-  spare-small = omega (arith, is, few, narrow)
-
-  pub link-small : (j : ℕ) → j ≡ link_from at k w was → w < k.wires → j < 67108864
-  link-small j e wide = omega (arith, e, by-link at k.gates k.wires w 0 0 was (λ x. x < 67108864) (λ z. omega arith) (λ z. omega (arith, tail_within)))
-
-  pub link-inside : (j : ℕ) → j ≡ link_from at k w was → w < k.wires → spare_at k + notes_for k ≤ length was → j < length was
-  link-inside j e wide room = omega (arith, e, by-link at k.gates k.wires w 0 0 was (λ x. x < length was) (λ z. omega arith) (λ z. omega (arith, tail_within)))
-
--- The places of a wire's tail and of a closer's two words.
-module _ (k : Extent) (at : ℕ) (was : List ℕ) (is : at ≡ spare_at k) (room : spare_at k + notes_for k ≤ length was) where
-  pub tail-inside : (w : ℕ) → w < k.wires → at + 2 * k.gates + k.wires + w < length was
-  tail-inside w wide = omega arith
-
-  pub next-inside : (closer : ℕ) → closer < k.gates → at + closer < length was
-  next-inside closer l = omega arith
-
-  pub opener-inside : (closer : ℕ) → closer < k.gates → at + k.gates + closer < length was
-  opener-inside closer l = omega arith
-
-pub noted-is : (k : Extent) (at w opener closer j : ℕ) (was : List ℕ) → at ≡ spare_at k → j ≡ link_from at k w was →
-    set (set (set (set was j (closer + 1)) (at + 2 * k.gates + k.wires + w) (closer + 1)) (at + closer) 0) (at + k.gates + closer) opener
-    ≡ noted_in k w opener closer was
-noted-is k at w opener closer j was is e =
-    let next : closer + 1 ≡ suc closer = omega arith in
-    ap (put at j) next ∙ ap (λ (l : ℕ). put at l (suc closer)) e ∙ ap (λ (x : ℕ). put x (link_from x k w was) (suc closer)) is
-  where
-    put : ℕ → ℕ → ℕ → List ℕ
-    put x l v = set (set (set (set was l v) (x + 2 * k.gates + k.wires + w) v) (x + closer) 0) (x + k.gates + closer) opener
+-- The place of a wire's tail, from where the spare words start.
+pub tail-inside : (k : Extent) (at : ℕ) (was : List ℕ) → at ≡ spare_at k → spare_at k + notes_for k ≤ length was → (w : ℕ) → w < k.wires →
+    at + 2 * k.gates + k.wires + w < length was
+tail-inside k at was is room w wide = omega arith

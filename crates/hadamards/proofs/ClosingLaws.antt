@@ -1,4 +1,5 @@
 -- What an h opens on its wire, gate by gate: a run and the h that closes it, or an x and an h.
+use Rattle.std.specs.Prelude.{Some, None}
 use mathlib.Core.Path.{◌≡◌, refl, sym, ap, ap₂, ◌∙◌}
 use mathlib.Core.Bool.{Bool, true, false, cond, ◌||◌, ◌&&◌, or-false}
 use mathlib.Core.List.{List, [], ◌∷◌}
@@ -20,7 +21,6 @@ use Rattle.rules.proofs.EqualLaws.{none-not-some}
 use Rattle.leaves.specs.Answers.{worth_by}
 use Rattle.leaves.proofs.RunLaws.{worth-by}
 use Rattle.slots.specs.declared.Slot.{Slot}
-use Rattle.slots.specs.declared.Found.{Found}
 use Rattle.slots.specs.Slots.{found}
 use Rattle.hadamards.specs.Firings.{Close, closing_of}
 use Rattle.hadamards.specs.declared.closing.Closing.{Closing}
@@ -317,56 +317,3 @@ pub h-alone : (w : ℕ) (g : Gate) → is_h_on w g ≡ true → wires_of g ≡ w
 h-alone w g h =
     let is : kind_of g ≡ 1 = eqb-true (kind_of g) 1 (and_left (is_h g) (touches w g) h) in
     alone-on w g (omega (arith, is)) (and_right (is_h g) (touches w g) h)
-
--- ------------------------------------------------------------ what is put in place of the gates
-
-module _ (on : Wire) (closing : Closing) (closer : Slot) where
-  -- A step is allowed where the sum is even.
-  pub closer-if : (sum : ℕ) (b : Bool) → closing ≡ Closing.ByRun closer sum →
-      eqb sum 0 || eqb sum 4 || eqb sum 2 || eqb sum 6 ≡ b → cond b (Found.At closer) Found.Nothing ≡ found (closer_of (as_close on closing))
-  unfolding by_eighths
-  closer-if sum b e q =
-      ap (λ (t : Bool). cond t (Found.At closer) Found.Nothing) (sym q) ∙ go (eqb sum 0) (eqb sum 4) (eqb sum 2) (eqb sum 6)
-      ∙ ap (λ (x : Closing). found (closer_of (as_close on x))) (sym e)
-    where
-      go : (a b c d : Bool) → cond (a || b || c || d) (Found.At closer) Found.Nothing
-          ≡ found (closer_of (close_by closer.0
-          (cond a (rewrite none none)
-          (cond b (rewrite none (some (X on)))
-          (cond c (rewrite (some (Sdg on)) (some (H on)))
-          (cond d (rewrite (some (S on)) (some (H on))) none))))))
-      go true b c d = refl
-      go false true c d = refl
-      go false false true d = refl
-      go false false false true = refl
-      go false false false false = refl
-
-  module _ (c : Close) (some-c : as_close on closing ≡ some c) where
-    pub forms-x : closing ≡ Closing.ByX closer → record { ends = none; first = some (Z on) } ≡ c.rewrite
-    forms-x e = let is : as_close on (Closing.ByX closer) ≡ some c = ap (as_close on) (sym e) ∙ some-c in cc
-
-    by-sum : (sum : ℕ) (b : Bool) (r : Rewrite) → closing ≡ Closing.ByRun closer sum → by_eighths on sum ≡ cond b (some r) none → r ≡ c.rewrite
-    by-sum sum b r e q = go b (ap (close_by closer.0) (sym q) ∙ ap (as_close on) (sym e) ∙ some-c)
-      where
-        go : (b : Bool) → close_by closer.0 (cond b (some r) none) ≡ some c → r ≡ c.rewrite
-        go true h = cc
-        go false h = absurd (none-not-some c h)
-
-    pub forms-0 : (sum : ℕ) → closing ≡ Closing.ByRun closer sum → sum ≡ 0 → record { ends = none; first = none } ≡ c.rewrite
-    unfolding by_eighths
-    forms-0 sum e q = by-sum sum true (record { ends = none; first = none }) e (ap (by_eighths on) q)
-
-    pub forms-4 : (sum : ℕ) → closing ≡ Closing.ByRun closer sum → sum ≡ 4 → record { ends = none; first = some (X on) } ≡ c.rewrite
-    unfolding by_eighths
-    forms-4 sum e q = by-sum sum true (record { ends = none; first = some (X on) }) e (ap (by_eighths on) q)
-
-    pub forms-2 : (sum : ℕ) → closing ≡ Closing.ByRun closer sum → sum ≡ 2 → record { ends = some (Sdg on); first = some (H on) } ≡ c.rewrite
-    unfolding by_eighths
-    forms-2 sum e q = by-sum sum true (record { ends = some (Sdg on); first = some (H on) }) e (ap (by_eighths on) q)
-
-    pub forms-6 : (sum : ℕ) → closing ≡ Closing.ByRun closer sum → (sum ≡ 0 → ⊥) → (sum ≡ 4 → ⊥) → (sum ≡ 2 → ⊥) →
-        record { ends = some (S on); first = some (H on) } ≡ c.rewrite
-    unfolding by_eighths
-    forms-6 sum e p q r =
-        by-sum sum (eqb sum 6) (record { ends = some (S on); first = some (H on) }) e
-        (rw (ne_eqb sum 0 p, ne_eqb sum 4 q, ne_eqb sum 2 r) refl)

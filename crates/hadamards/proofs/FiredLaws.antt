@@ -1,4 +1,5 @@
 -- A firing carried out: between its two h stands what the step puts there, and nothing else has changed.
+use Rattle.std.specs.Prelude.{Option as Answer}
 use mathlib.Core.Path.{◌≡◌, refl, sym, ap, subst, ◌∙◌}
 use mathlib.Core.Bool.{Bool, true, cond}
 use mathlib.Core.List.{List, [], ◌∷◌, ◌++◌, append-nil}
@@ -177,6 +178,6 @@ fired-all k w f r x e a aw b bw c cw d dw p q may closes mid first last =
     (subst (λ (o : Option Gate). Placed k f.closer o c cw d dw) q last)
 
 -- What the code found to put in place of the gates.
-pub forms-are : (w : Wire) (x : Closing) (forms : Forms) (l : List (Cell ℕ)) (c : Close) → as_close w x ≡ closing_of w.0 l →
+pub forms-are : (w : Wire) (x : Answer Closing) (forms : Forms) (l : List (Cell ℕ)) (c : Close) → as_close w x ≡ closing_of w.0 l →
     ((c : Close) → as_close w x ≡ some c → as_rewrite forms ≡ c.rewrite) → closing_of w.0 l ≡ some c → as_rewrite forms ≡ c.rewrite
 forms-are w x forms l c p h q = h c (p ∙ q)

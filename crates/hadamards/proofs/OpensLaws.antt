@@ -1,4 +1,5 @@
 -- What an h opens on its wire, slot by slot: from each gate on the wire to the next.
+use Rattle.std.specs.Prelude.{Option as Answer, Some, None, Ok}
 use mathlib.Core.Path.{◌≡◌, refl, sym, ap, ap₂, subst, ◌∙◌}
 use mathlib.Core.Bool.{Bool, true, false, cond}
 use mathlib.Core.List.{List, [], ◌∷◌}
@@ -9,14 +10,13 @@ use lib.ListN.{length, get_or}
 use borrow.Author.Tests.{eq-eqb, ne_eqb}
 use Rattle.gates.specs.declared.Gate.TheVariants.{Z}
 use Rattle.gates.specs.Gates.{wire, wires_of, touches}
-use Rattle.gates.specs.declared.records.Decoded.{Decoded}
+use Rattle.gates.specs.declared.records.NoGate.{NoGate}
 use Rattle.gates.specs.Records.{kind_of, record_at, gate_of, is_h}
 use Rattle.rules.specs.Runs.{is_h_on, worth, rewrite}
 use Rattle.rules.specs.Steps.{Cell, Cut}
 use Rattle.rules.specs.Sweeps.{cut}
 use Rattle.slots.specs.declared.Extent.{Extent}
 use Rattle.slots.specs.declared.Slot.{Slot}
-use Rattle.slots.specs.declared.Found.{Found}
 use Rattle.slots.specs.Slots.{gate_at, cell_of, cells_from, slot_of, slot_as, found}
 use Rattle.slots.specs.Live.{is_live, later, Live}
 use Rattle.slots.proofs.CutLaws.{cut-from-parts}
@@ -42,44 +42,46 @@ module _ (bytes words : List ℕ) (k : Extent) where
     pub parts : next_in w at ≡ some (record { before = before; here = cell_of (gate_at bytes) j; after = later bytes words k j })
 
   -- The answers of `after_on`, asked at a gate of one wire.
-  pub next-none : (w at : ℕ) (next : Found) →
-      next ≡ found (slot_of (cut (touches (get_or (wires_of (gate_at bytes at)) 0 0)) (later bytes words k at))) →
-      wires_of (gate_at bytes at) ≡ w ∷ [] → next ≡ Found.Nothing → next_in w at ≡ none
-  next-none w at next e wires is =
-      go (next_in w at) (sym is ∙ e ∙ ap (λ (ws : List ℕ). found (slot_of (next_in (get_or ws 0 0) at))) wires)
-    where
-      go : (o : Option (Cut ℕ)) → Found.Nothing ≡ found (slot_of o) → o ≡ none
-      go none q = refl
-      go (some c) q = absurd (let z : ◌≡◌ {A = ℕ} 0 1 = cc in omega arith)
+  module _ (w at : ℕ) (wires : wires_of (gate_at bytes at) ≡ w ∷ []) where
+    -- What it finds.
+    abbrev next_found : Answer Slot
+    next_found = found (slot_of (cut (touches (get_or (wires_of (gate_at bytes at)) 0 0)) (later bytes words k at)))
 
-  pub next-on : (w at : ℕ) (next : Found) (j : Slot) →
-      next ≡ found (slot_of (cut (touches (get_or (wires_of (gate_at bytes at)) 0 0)) (later bytes words k at))) →
-      wires_of (gate_at bytes at) ≡ w ∷ [] → next ≡ Found.At j → NextOn w at j.0
-  next-on w at next j e wires is =
-      go (next_in w at) refl (sym is ∙ e ∙ ap (λ (ws : List ℕ). found (slot_of (next_in (get_or ws 0 0) at))) wires)
-    where
-      go : (o : Option (Cut ℕ)) → next_in w at ≡ o → Found.At j ≡ found (slot_of o) → NextOn w at j.0
-      go none p q = absurd (let z : ◌≡◌ {A = ℕ} 0 1 = cc in omega arith)
-      go (some c) p q =
-          let s = cut-from-parts (is_live words k) (gate_at bytes) (touches w) (suc at) (k.gates - suc at) c p in
-          let long : suc at + (k.gates - suc at) - suc c.here.beside ≡ k.gates - suc c.here.beside =
-          omega (arith, s.from, s.inside) in
-          let same : slot_as c.here.beside ≡ j = cc in
-          subst (λ (i : Slot). NextOn w at i.0) same
-          (record {
-            past = s.from;
-            inside = omega (arith, s.from, s.inside);
-            live = s.live_here;
-            on = s.meets;
-            before = c.before;
-            parts = p
-                ∙ ap₂ (λ (x : Cell ℕ) (l : List (Cell ℕ)). some (record { before = c.before; here = x; after = l })) s.here
-                (s.after ∙ ap (cells_from (is_live words k) (gate_at bytes) (suc c.here.beside)) long);
-          })
+    on-wire : next_found ≡ found (slot_of (next_in w at))
+    on-wire = ap (λ (ws : List ℕ). found (slot_of (next_in (get_or ws 0 0) at))) wires
+
+    pub next-none : None ≡ next_found → next_in w at ≡ none
+    next-none e = go (next_in w at) (e ∙ on-wire)
+      where
+        go : (o : Option (Cut ℕ)) → None ≡ found (slot_of o) → o ≡ none
+        go none q = refl
+        go (some c) q = cc
+
+    pub next-on : (j : Slot) → Some j ≡ next_found → NextOn w at j.0
+    next-on j e = go (next_in w at) refl (e ∙ on-wire)
+      where
+        go : (o : Option (Cut ℕ)) → next_in w at ≡ o → Some j ≡ found (slot_of o) → NextOn w at j.0
+        go none p q = cc
+        go (some c) p q =
+            let s = cut-from-parts (is_live words k) (gate_at bytes) (touches w) (suc at) (k.gates - suc at) c p in
+            let long : suc at + (k.gates - suc at) - suc c.here.beside ≡ k.gates - suc c.here.beside =
+            omega (arith, s.from, s.inside) in
+            let same : slot_as c.here.beside ≡ j = cc in
+            subst (λ (i : Slot). NextOn w at i.0) same
+            (record {
+              past = s.from;
+              inside = omega (arith, s.from, s.inside);
+              live = s.live_here;
+              on = s.meets;
+              before = c.before;
+              parts = p
+                  ∙ ap₂ (λ (x : Cell ℕ) (l : List (Cell ℕ)). some (record { before = c.before; here = x; after = l })) s.here
+                  (s.after ∙ ap (cells_from (is_live words k) (gate_at bytes) (suc c.here.beside)) long);
+            })
 
   -- Its record can be read.
   pub next-reads : (w at j : ℕ) → Live bytes words k → NextOn w at j →
-      (16 * j + 16 ≤ length bytes) × (gate_of (record_at bytes j) ≡ Decoded.Gate (gate_at bytes j))
+      (16 * j + 16 ≤ length bytes) × (gate_of (record_at bytes j) ≡ Ok (gate_at bytes j))
   next-reads w at j l n = (
     omega (arith, l.loaded.long, n.inside),
     reads-gate k.wires bytes j (l.loaded.sound j n.live),
@@ -93,19 +95,6 @@ module _ (bytes words : List ℕ) (k : Extent) where
     pub alone : wires_of (gate_at bytes at) ≡ w ∷ []
     pub small : sum < 8
     pub so_far : run_from w 0 (later bytes words k from) ≡ run_from w sum (later bytes words k at)
-
-  -- The wire may be read from the gate: an h has no other.
-  abbrev pub first_wire : ℕ → ℕ
-  first_wire slot = get_or (wires_of (gate_at bytes slot)) 0 0
-
-  h-wire : (w slot : ℕ) → is_h_on w (gate_at bytes slot) ≡ true → first_wire slot ≡ w
-  h-wire w slot h = ap (λ (ws : List ℕ). get_or ws 0 0) (h-alone w (gate_at bytes slot) h)
-
-  pub run-given : (w from at sum : ℕ) → is_h_on w (gate_at bytes from) ≡ true → Running (first_wire from) from at sum → Running w from at sum
-  run-given w from at sum h = subst (λ (v : ℕ). Running v from at sum) (h-wire w from h)
-
-  pub run-read : (w from at sum : ℕ) → is_h_on w (gate_at bytes from) ≡ true → Running w from at sum → Running (first_wire from) from at sum
-  run-read w from at sum h = subst (λ (v : ℕ). Running v from at sum) (sym (h-wire w from h))
 
   pub run-starts : (w slot : ℕ) → is_live words k slot ≡ true → is_h_on w (gate_at bytes slot) ≡ true → Running w slot slot 0
   run-starts w slot t h = record { live = t; alone = h-alone w (gate_at bytes slot) h; small = omega arith; so_far = refl }
@@ -173,9 +162,9 @@ module _ (bytes words : List ℕ) (k : Extent) where
     x-broken h other q m e p = x-then h false q m (ne_eqb (kind_of (gate_at bytes h)) 1 (λ i. p (e ∙ i)))
 
     -- Any other gate: what the run says.
-    pub run-opens : (run is : Run) → (kind ≡ 0 → ⊥) → run ≡ is → as_ran run ≡ run_from w 0 (later bytes words k slot) →
-        closed_by w (as_ran is) ≡ closing_of w (later bytes words k slot)
-    run-opens run is q e r =
-        ap (λ (x : Run). closed_by w (as_ran x)) (sym e) ∙ ap (closed_by w) r
+    pub run-opens : (run : Answer Run) → (kind ≡ 0 → ⊥) → as_ran run ≡ run_from w 0 (later bytes words k slot) →
+        closed_by w (as_ran run) ≡ closing_of w (later bytes words k slot)
+    run-opens run q r =
+        ap (closed_by w) r
         ∙ sym (run-closes w (later bytes words k slot)
         (ap x_next n.parts ∙ ne_eqb (kind_of (gate_at bytes x)) 0 (λ i. q (kind-is ∙ i))))

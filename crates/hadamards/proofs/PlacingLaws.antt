@@ -1,4 +1,5 @@
 -- Slots of a wire: the next one, those between two of them that go, and one that takes another gate or goes.
+use Rattle.std.specs.Prelude.{Option as Answer, Some, None}
 use mathlib.Core.Path.{◌≡◌, refl, sym, ap, ap₂, subst, ◌∙◌}
 use mathlib.Core.Bool.{Bool, true, false, not, cond, ◌&&◌, false≢true}
 use mathlib.Core.List.{List, [], ◌∷◌, ◌++◌, reverse}
@@ -23,14 +24,12 @@ use Rattle.links.proofs.SeekLaws.{IsEarliest, earliest-is, parted}
 use Rattle.links.proofs.WordLaws.{within_none, within-then}
 use Rattle.slots.specs.declared.Extent.{Extent}
 use Rattle.slots.specs.declared.Slot.{Slot}
-use Rattle.slots.specs.declared.Found.{Found}
 use Rattle.slots.specs.Slots.{gate_in, gate_at, Sound, cell_of, cells_below, left_out, slot_of, slot_as, found}
 use Rattle.slots.specs.Live.{spare_at, is_live, held, later, Live}
 use Rattle.slots.proofs.HeldLaws.{cut-from}
 use Rattle.slots.proofs.CutLaws.{held-parts}
 use Rattle.slots.proofs.StateLaws.{live_below, gate-is, record_is}
 use Rattle.journal.proofs.TakenLaws.{left_out_lem}
-use Rattle.hadamards.specs.declared.closing.Put.{Put}
 use Rattle.hadamards.specs.Closings.{put_as}
 use Rattle.hadamards.specs.Placing.{DroppedOn, OneWire, Placed}
 
@@ -77,18 +76,21 @@ module _ (bytes words : List ℕ) (k : Extent) (w from : ℕ) where
       subst answer (sym (cut-from (is_live words k) (gate_at bytes) (touches w) (suc from) (k.gates - suc from)))
       (earliest-is (λ l. is_live words k l && touches w (gate_at bytes l)) (suc from) (k.gates - suc from) k.gates (omega (arith, m)))
 
-  found_at : (o : Option ℕ) (r : Found) (s : Slot) → r ≡ Found.At s → r ≡ found o → o ≡ some s.0
-  found_at none r s q e = cc
-  found_at (some i) r s q e = let same : slot_as i ≡ s = cc in ap (λ (x : Slot). some x.0) same
+  -- What `after_on` finds.
+  abbrev next_found : Answer Slot
+  next_found = found (slot_of (cut (touches w) (later bytes words k from)))
 
-  found_none : (o : Option ℕ) (r : Found) → r ≡ Found.Nothing → r ≡ found o → o ≡ none
-  found_none none r q e = refl
-  found_none (some i) r q e = cc
+  found_at : (o : Option ℕ) (s : Slot) → Some s ≡ found o → o ≡ some s.0
+  found_at none s e = cc
+  found_at (some i) s e = let same : slot_as i ≡ s = cc in ap (λ (x : Slot). some x.0) same
 
-  pub next-on : from < k.gates → (r : Found) (s : Slot) → r ≡ Found.At s → r ≡ found (slot_of (cut (touches w) (later bytes words k from))) →
-      NextOn s.0
-  next-on m r s q e =
-      let h = subst answer (found_at (slot_of (cut (touches w) (later bytes words k from))) r s q e) (answered m) in
+  found_none : (o : Option ℕ) → None ≡ found o → o ≡ none
+  found_none none e = refl
+  found_none (some i) e = cc
+
+  pub next-on : from < k.gates → (s : Slot) → Some s ≡ next_found → NextOn s.0
+  next-on m s e =
+      let h = subst answer (found_at (slot_of (cut (touches w) (later bytes words k from))) s e) (answered m) in
       let t = h.2 in
       record {
         past = h.0;
@@ -99,11 +101,10 @@ module _ (bytes words : List ℕ) (k : Extent) (w from : ℕ) where
       }
 
   -- A live slot on the wire that comes later: there is a next one, and it is no later.
-  pub next-there : (to : ℕ) → is_live words k to ≡ true → touches w (gate_at bytes to) ≡ true → from < to → (r : Found) →
-      r ≡ Found.Nothing → r ≡ found (slot_of (cut (touches w) (later bytes words k from))) → ⊥
-  next-there to t u m r q e =
+  pub next-there : (to : ℕ) → is_live words k to ≡ true → touches w (gate_at bytes to) ≡ true → from < to → None ≡ next_found → ⊥
+  next-there to t u m e =
       let below = live_below words k to t in
-      let h = subst answer (found_none (slot_of (cut (touches w) (later bytes words k from))) r q e) (answered (omega (arith, m, below))) in
+      let h = subst answer (found_none (slot_of (cut (touches w) (later bytes words k from))) e) (answered (omega (arith, m, below))) in
       false≢true (sym (h to m below) ∙ ap₂ ◌&&◌ t u)
 
   pub next-first : (to j : ℕ) → is_live words k to ≡ true → touches w (gate_at bytes to) ≡ true → from < to → NextOn j → j ≤ to
@@ -117,10 +118,6 @@ pub record Dropping (bytes : List ℕ) (k : Extent) (w from to : ℕ) (was now :
   pub fewer : (j : ℕ) → is_live was k j ≡ false → is_live now k j ≡ false
   pub only : (j : ℕ) → is_live was k j ≡ true → is_live now k j ≡ false → (from < j) × (j < to) × (touches w (gate_at bytes j) ≡ true)
   pub within : Within 0 (spare_at k) was now
-
-pub dropping-none : (bytes : List ℕ) (k : Extent) (w from to : ℕ) (words : List ℕ) → Live bytes words k → Dropping bytes k w from to words words
-dropping-none bytes k w from to words l =
-    record { live = l; fewer = λ j f. f; only = λ j t f. absurd (false≢true (sym f ∙ t)); within = within_none 0 (spare_at k) words }
 
 module _ (bytes : List ℕ) (k : Extent) (w from to : ℕ) (was now : List ℕ) (h : Dropping bytes k w from to was now) where
   -- A slot that is not between them is still there.
@@ -211,10 +208,10 @@ one-wire-record n bytes slot w g sound there here = (
   here.words ∙ sym (ap (of_kind (kind_of g)) (sym (record_is n bytes slot sound) ∙ there.words)),
 )
 
-pub placed-none : (k : Extent) (slot : ℕ) (bytes was now : List ℕ) (put : Put) → put ≡ Put.Nothing →
+pub placed-none : (k : Extent) (slot : ℕ) (bytes was now : List ℕ) (put : Answer Gate) → put ≡ None →
     held bytes now k ≡ left_out slot (held bytes was k) → Placed k slot (put_as put) bytes was bytes now
 placed-none k slot bytes was now put q e =
-    subst (λ (p : Put). Placed k slot (put_as p) bytes was bytes now) (sym q)
+    subst (λ (p : Answer Gate). Placed k slot (put_as p) bytes was bytes now) (sym q)
     (record {
       here = left slot ∙ off (is_live was k slot) (eqb slot slot) (eq-eqb slot slot refl);
       other = λ j d. record { live = left j ∙ on (is_live was k j) (eqb j slot) (ne_eqb j slot d); gate = refl };
@@ -231,11 +228,11 @@ placed-none k slot bytes was now put q e =
     on true b q = ap not q
     on false b q = refl
 
-pub placed-some : (k : Extent) (slot : ℕ) (bytes words after : List ℕ) (put : Put) (g : Gate) → put ≡ Put.One g → Live bytes words k →
+pub placed-some : (k : Extent) (slot : ℕ) (bytes words after : List ℕ) (put : Answer Gate) (g : Gate) → put ≡ Some g → Live bytes words k →
     is_live words k slot ≡ true → record_of g ≡ of_kind (kind_of g) (record_at bytes slot) → after ≡ set bytes (16 * slot) (kind_of g) →
     Placed k slot (put_as put) bytes words after words
 placed-some k slot bytes words after put g q list t same e =
-    subst (λ (p : Put). Placed k slot (put_as p) bytes words after words) (sym q)
+    subst (λ (p : Answer Gate). Placed k slot (put_as p) bytes words after words) (sym q)
     (record {
       here = (t, ap (λ (b : List ℕ). gate_at b slot) e ∙ gate-is (set bytes (16 * slot) (kind_of g)) slot ∙ ap (λ r. gate_in (gate_of r)) record-now ∙ ap gate_in (decode-encode g));
       other = λ j d. record {

@@ -1,4 +1,5 @@
 -- What the scan's code asks and leaves, turn by turn: of an h, of a slot, and of all slots.
+use Rattle.std.specs.Prelude.{Some, None}
 use mathlib.Core.Path.{◌≡◌, refl, sym, ap, ap₂, subst, ◌∙◌}
 use mathlib.Core.Bool.{Bool, true, false, ◌&&◌}
 use mathlib.Core.List.{List, [], ◌∷◌, ◌++◌, append-nil}
@@ -9,7 +10,7 @@ use lib.Dec.{eqb}
 use lib.ListN.{length, get_or}
 use borrow.Author.Tests.{eqb-true, eqb-false, eq-eqb, ne_eqb}
 use Rattle.gates.specs.declared.Gate.{Gate}
-use Rattle.gates.specs.declared.records.Decoded.{Decoded}
+use Rattle.gates.specs.declared.records.NoGate.{NoGate}
 use Rattle.gates.specs.Gates.{wires_of, touches, All}
 use Rattle.gates.specs.Records.{record_at, gate_of, kind_of, is_h}
 use Rattle.gates.proofs.Joined.{and_right}
@@ -20,7 +21,6 @@ use Rattle.links.specs.Words.{word, Within, Cleared}
 use Rattle.links.proofs.WordLaws.{within_none, within_wider}
 use Rattle.slots.specs.declared.Extent.{Extent}
 use Rattle.slots.specs.declared.Slot.{Slot}
-use Rattle.slots.specs.declared.Found.{Found}
 use Rattle.slots.specs.Slots.{gate_at, cells_from, found}
 use Rattle.slots.specs.Live.{spare_at, is_live, later, Live}
 use Rattle.slots.proofs.HeldLaws.{cells-none}
@@ -59,11 +59,11 @@ record Answered (o : Option Close) (slot : ℕ) : Type 0 where
   is : o ≡ some close
   at : close.closer ≡ slot
 
-answered : (o : Option Close) (s : Slot) → Found.At s ≡ found (closer_of o) → Answered o s.0
+answered : (o : Option Close) (s : Slot) → Some s ≡ found (closer_of o) → Answered o s.0
 answered none s e = absurd (let z : ◌≡◌ {A = ℕ} 0 1 = cc in omega arith)
 answered (some c) s e = record { close = c; is = refl; at = cc }
 
-answered-none : (o : Option Close) → Found.Nothing ≡ found (closer_of o) → o ≡ none
+answered-none : (o : Option Close) → None ≡ found (closer_of o) → o ≡ none
 answered-none none e = refl
 answered-none (some c) e = absurd (let z : ◌≡◌ {A = ℕ} 0 1 = cc in omega arith)
 
@@ -91,9 +91,6 @@ module _ (bytes was : List ℕ) (k : Extent) (w slot : ℕ) (list : Live bytes w
   pub h-tail-within : word was (tails_at k) w ≤ k.gates
   h-tail-within = omega (arith, (noted w h-wide).last, behind-within k.gates (noted w h-wide).firings-so-far (noted w h-wide).inside)
 
-  pub h-tail-small : tail ≤ 1048576
-  h-tail-small = omega (arith, tail-is, h-tail-within, list.loaded.few)
-
   each-wire : NotedTo bytes was k w (suc slot) → (v : ℕ) → v < k.wires → NotedTo bytes was k v (suc slot)
   each-wire own v m = go (eqb v w) refl
     where
@@ -110,13 +107,13 @@ module _ (bytes was : List ℕ) (k : Extent) (w slot : ℕ) (list : Live bytes w
 
   -- It is tried.
   module _ (answer : Option Close) (told : answer ≡ closing_of w (later bytes was k slot)) where
-    pub h-idle : tail ≤ slot → Found.Nothing ≡ found (closer_of answer) → ScannedTo bytes was was k (slot + 1)
+    pub h-idle : tail ≤ slot → None ≡ found (closer_of answer) → ScannedTo bytes was was k (slot + 1)
     h-idle early e =
         scanned-next bytes was was k slot
         (each-wire (noted-open bytes was k w slot slot< (noted w h-wide) live opens (omega (arith, tail-is)) (sym told ∙ answered-none answer e)))
         (within_none (spare_at k) (notes_for k) was)
 
-    module _ (s : Slot) (e : Found.At s ≡ found (closer_of answer)) where
+    module _ (s : Slot) (e : Some s ≡ found (closer_of answer)) where
       a : Answered answer s.0
       a = answered answer s e
 
@@ -149,9 +146,6 @@ module _ (bytes was : List ℕ) (k : Extent) (slot : ℕ) (list : Live bytes was
       scanned-next bytes was was k slot (λ v m. noted-dead bytes was k v slot slot< (noted v m) e) (within_none (spare_at k) (notes_for k) was)
 
   module _ (live : is_live was k slot ≡ true) where
-    pub slot-reads : (16 * slot + 16 ≤ length bytes) × (gate_of (record_at bytes slot) ≡ Decoded.Gate (gate_at bytes slot))
-    slot-reads = (omega (arith, list.loaded.long), reads-gate k.wires bytes slot (list.loaded.sound slot live))
-
     pub slot-other : (kind : ℕ) → kind ≡ kind_of (gate_at bytes slot) → (kind ≡ 1 → ⊥) → ScannedTo bytes was was k (slot + 1)
     slot-other kind e d =
         scanned-next bytes was was k slot (λ v m. noted-off bytes was k v slot slot< (noted v m) live (no-h v))
@@ -161,10 +155,6 @@ module _ (bytes was : List ℕ) (k : Extent) (slot : ℕ) (list : Live bytes was
         no-h v = ap (λ (b : Bool). b && touches v (gate_at bytes slot)) (ne_eqb (kind_of (gate_at bytes slot)) 1 (λ q. d (e ∙ q)))
 
 -- ------------------------------------------------------------ all slots
-
-pub clear-inside : (bytes was : List ℕ) (k : Extent) (at : ℕ) → Live bytes was k → 0 < k.gates → at ≡ spare_at k →
-    at + 2 * k.gates + 2 * k.wires ≤ length was
-clear-inside bytes was k at list any is = omega (arith, notes-in-room k any, list.loaded.room, is)
 
 -- Heads and tails are 0 before the first.
 pub scan-start : (bytes was now : List ℕ) (k : Extent) (at : ℕ) → at ≡ spare_at k → Cleared (at + 2 * k.gates) (2 * k.wires) was now →

@@ -120,11 +120,3 @@ module _ (b₀ ws₀ j₀ : List ℕ) (k : Extent) (steps : ℕ) (b ws j : List 
   swept_all was m e =
       let end : w ≡ k.wires = omega (arith, m, h.inside) in
       subst (λ (d : Done ℕ). Did d (held b ws k) steps s j₀ j) (ap₂ (λ (n : ℕ) (l : List (Cell ℕ)). hadamard_sweep n l) end e) h.did
-
--- Notes in spare words and changes of links are changes within the room.
-pub noted-in-room : (k : Extent) (was noted now : List ℕ) → 0 < k.gates → Within (spare_at k) (notes_for k) was noted →
-    Within 0 (spare_at k) noted now → Within 0 (words_for k) was now
-noted-in-room k was noted now here p q =
-    within-then 0 (words_for k) was noted now
-    (within_wider (spare_at k) (notes_for k) 0 (words_for k) was noted (omega arith) (omega (arith, room-enough k here)) p)
-    (links-in-room k noted now here q)

@@ -1,5 +1,5 @@
 -- The h that closes what another opens, as the code finds it, and what stands in place of the gates.
-use Rattle.std.specs.Prelude.{cond, List, [], ◌∷◌, ℕ, ◌+◌, ◌%◌}
+use Rattle.std.specs.Prelude.{Option as Answer, Some, None, cond, List, [], ◌∷◌, ℕ, ◌+◌, ◌%◌}
 use Rattle.std.proofs.Math.Option.{Option, some, none}
 use Rattle.gates.specs.declared.Wire.{Wire}
 use Rattle.gates.specs.declared.Gate.{Gate}
@@ -10,7 +10,6 @@ use Rattle.rules.specs.Runs.{Rewrite, worth, rewrite, by_eighths}
 use Rattle.rules.specs.Steps.{Cell, and_then, try}
 use Rattle.hadamards.specs.declared.closing.Run.{Run}
 use Rattle.hadamards.specs.declared.closing.Closing.{Closing}
-use Rattle.hadamards.specs.declared.closing.Put.{Put}
 use Rattle.hadamards.specs.declared.closing.Forms.{Forms}
 use Rattle.hadamards.specs.Firings.{Close}
 
@@ -30,25 +29,25 @@ run_from w sum (e ∷ l) =
 
 -- ------------------------------------------------------------ answers
 
-abbrev pub as_ran : Run → Option Ran
-as_ran (Run.Closed closer sum) = ran_to closer.0 sum
-as_ran Run.Open = none
+abbrev pub as_ran : Answer Run → Option Ran
+as_ran (Some run) = ran_to run.closer.0 run.sum
+as_ran None = none
 
 abbrev pub close_by : ℕ → Option Rewrite → Option Close
 close_by closer o = and_then o λ r. some (record { closer = closer; rewrite = r })
 
 -- "next x, then h", or a run: its sum says what is put in place of the gates, if anything.
-abbrev pub as_close : Wire → Closing → Option Close
-as_close w (Closing.ByX closer) = close_by closer.0 (rewrite none (some (Z w)))
-as_close w (Closing.ByRun closer sum) = close_by closer.0 (by_eighths w sum)
-as_close w Closing.Nothing = none
+abbrev pub as_close : Wire → Answer Closing → Option Close
+as_close w (Some (Closing.ByX closer)) = close_by closer.0 (rewrite none (some (Z w)))
+as_close w (Some (Closing.ByRun run)) = close_by run.closer.0 (by_eighths w run.sum)
+as_close w None = none
 
 abbrev pub closer_of : Option Close → Option ℕ
 closer_of o = and_then o λ c. some c.closer
 
-abbrev pub put_as : Put → Option Gate
-put_as (Put.One g) = some g
-put_as Put.Nothing = none
+abbrev pub put_as : Answer Gate → Option Gate
+put_as (Some g) = some g
+put_as None = none
 
 abbrev pub as_rewrite : Forms → Rewrite
 as_rewrite f = record { ends = put_as f.ends; first = put_as f.first }

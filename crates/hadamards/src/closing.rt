@@ -8,145 +8,120 @@ ghost use Rattle.slots.specs.Live.{is_live, later, Live};
 ghost use Rattle.hadamards.specs.Firings.{Close, closing_of};
 ghost use Rattle.hadamards.specs.Closings.{run_from, as_ran, as_close, closer_of, as_rewrite};
 
+use asking::linked::LiveList;
 use gates::{Gate, Wire};
 use leaves::runs;
-use leaves::runs::Worth;
-use slots::{Extent, Found, Slot};
+use slots::Slot;
 
-// A run behind an h: the h that closes it and its sum modulo 8; open where another gate ends it, or none.
-#[derive(Clone, Copy)]
-pub enum Run {
-    Closed { closer: Slot, sum: u8 },
-    Open,
+// A run behind an h: the h that closes it, and its sum modulo 8.
+#[derive(Clone, Copy, PartialEq, Eq)]
+pub struct Run {
+    pub closer: Slot,
+    pub sum: u8,
 }
 
-// How an h is closed: by an x and an h, or by a run of that sum and an h.
-#[derive(Clone, Copy)]
+// How an h is closed: by an x and an h, or by a run and an h.
+#[derive(Clone, Copy, PartialEq, Eq)]
 pub enum Closing {
     ByX(Slot),
-    ByRun { closer: Slot, sum: u8 },
-    Nothing,
+    ByRun(Run),
 }
 
-#[derive(Clone, Copy)]
-pub enum Put {
-    One(Gate),
-    Nothing,
-}
-
-// What is put in place of both h, and of the first gate between them.
-#[derive(Clone, Copy)]
+// What is put in place of both h, and of the first gate between them; nothing where they go.
+#[derive(Clone, Copy, PartialEq, Eq)]
 pub struct Forms {
-    pub ends: Put,
-    pub first: Put,
+    pub ends: Option<Gate>,
+    pub first: Option<Gate>,
 }
 
-// The run behind the h in a slot. All its gates have one wire.
-fn run_behind(records: &[u8], work: &[u32], k: Extent, slot: Slot, on: Wire) -> Run
-    requires live { Live records.now work.now k }
-    requires slot_value { (is_live work.now k slot.0 ≡ true) × (is_h_on on.0 (gate_at records.now slot.0) ≡ true) }
-    ensures { as_ran result ≡ run_from on.0 0 (later records.now work.now k slot.0) }
+// The run behind the h in a slot, if an h closes it. All its gates have one wire.
+fn run_behind(list: &LiveList, slot: Slot, on: Wire) -> Option<Run>
+    requires slot_live { is_live list.now.work.now list.now.extent slot.0 ≡ true }
+    requires is_h { is_h_on on.0 (gate_at list.now.records.now slot.0) ≡ true }
+    ensures { as_ran result ≡ run_from on.0 0 (later list.now.records.now list.now.work.now list.now.extent slot.0) }
 {
     let mut at = slot;
     let mut sum: u8 = 0;
     loop {
-        let next = asking::after_on(records, work, k, at, 0);
-        let Found::At(j) = next else {
-            return Run::Open;
-        };
-        let kind = asking::kind_at(records, j);
-        let worth = runs::worth_of(kind);
-        let Worth::Eighths(eighths) = worth else {
+        let next = list.after_on(at, 0)?;
+        let kind = asking::kind_at(list.records, next);
+        let Some(eighths) = runs::worth_of(kind) else {
             if kind == 1 {
-                return Run::Closed { closer: j, sum };
+                return Some(Run { closer: next, sum });
             }
-            return Run::Open;
+            return None;
         };
         sum = (sum + eighths) % 8;
-        at = j;
+        at = next;
     }
 }
 
 // What the h in a slot opens.
-pub fn opens(records: &[u8], work: &[u32], k: Extent, slot: Slot, on: Wire) -> Closing
-    requires live { Live records.now work.now k }
-    requires slot_value { (is_live work.now k slot.0 ≡ true) × (is_h_on on.0 (gate_at records.now slot.0) ≡ true) }
-    ensures { as_close (wire on.0) result ≡ closing_of on.0 (later records.now work.now k slot.0) }
+pub fn opens(list: &LiveList, slot: Slot, on: Wire) -> Option<Closing>
+    requires slot_live { is_live list.now.work.now list.now.extent slot.0 ≡ true }
+    requires is_h { is_h_on on.0 (gate_at list.now.records.now slot.0) ≡ true }
+    ensures { as_close (wire on.0) result ≡ closing_of on.0 (later list.now.records.now list.now.work.now list.now.extent slot.0) }
 {
-    let next = asking::after_on(records, work, k, slot, 0);
-    let Found::At(x) = next else {
-        return Closing::Nothing;
-    };
-    if asking::kind_at(records, x) == 0 {
-        let then = asking::after_on(records, work, k, x, 0);
-        let Found::At(h) = then else {
-            return Closing::Nothing;
-        };
-        if asking::kind_at(records, h) == 1 {
-            return Closing::ByX(h);
+    let next = list.after_on(slot, 0)?;
+    if asking::kind_at(list.records, next) == 0 {
+        let then = list.after_on(next, 0)?;
+        if asking::kind_at(list.records, then) == 1 {
+            return Some(Closing::ByX(then));
         }
-        return Closing::Nothing;
+        return None;
     }
-    let run = run_behind(records, work, k, slot, on);
-    match run {
-        Run::Open => Closing::Nothing,
-        Run::Closed { closer, sum } => Closing::ByRun { closer, sum },
-    }
+    let run = run_behind(list, slot, on)?;
+    Some(Closing::ByRun(run))
 }
 
 // The slot of the h that closes, where the step is allowed: a run's sum is even.
-pub fn closer_of(closing: Closing, on: Wire) -> Found
+#[tactic(auto, unfolding(rules::specs::Runs::by_eighths))]
+pub fn closer_of(closing: Option<Closing>, on: Wire) -> Option<Slot>
     ensures { result ≡ found (closer_of (as_close on closing)) }
 {
-    match closing {
-        Closing::Nothing => Found::Nothing,
-        Closing::ByX(closer) => Found::At(closer),
-        Closing::ByRun { closer, sum } => {
-            if (sum == 0) | (sum == 4) | (sum == 2) | (sum == 6) {
-                Found::At(closer)
+    match closing? {
+        Closing::ByX(closer) => Some(closer),
+        Closing::ByRun(run) => {
+            if matches!(run.sum, 0 | 2 | 4 | 6) {
+                Some(run.closer)
             } else {
-                Found::Nothing
+                None
             }
         }
     }
 }
 
 // What is put in place of the gates.
-pub fn forms_of(closing: Closing, on: Wire) -> Forms
+#[tactic(auto, unfolding(rules::specs::Runs::by_eighths))]
+pub fn forms_of(closing: Option<Closing>, on: Wire) -> Forms
     ensures { (c : Close) → as_close on closing ≡ some c → as_rewrite result ≡ c.rewrite }
 {
     match closing {
-        Closing::Nothing => Forms {
-            ends: Put::Nothing,
-            first: Put::Nothing,
+        None => Forms {
+            ends: None,
+            first: None,
         },
-        Closing::ByX(_) => Forms {
-            ends: Put::Nothing,
-            first: Put::One(Gate::Z(on)),
+        Some(Closing::ByX(_)) => Forms {
+            ends: None,
+            first: Some(Gate::Z(on)),
         },
-        Closing::ByRun { sum, .. } => {
-            if sum == 0 {
-                return Forms {
-                    ends: Put::Nothing,
-                    first: Put::Nothing,
-                };
-            }
-            if sum == 4 {
-                return Forms {
-                    ends: Put::Nothing,
-                    first: Put::One(Gate::X(on)),
-                };
-            }
-            if sum == 2 {
-                return Forms {
-                    ends: Put::One(Gate::Sdg(on)),
-                    first: Put::One(Gate::H(on)),
-                };
-            }
-            Forms {
-                ends: Put::One(Gate::S(on)),
-                first: Put::One(Gate::H(on)),
-            }
-        }
+        Some(Closing::ByRun(run)) => match run.sum {
+            0 => Forms {
+                ends: None,
+                first: None,
+            },
+            4 => Forms {
+                ends: None,
+                first: Some(Gate::X(on)),
+            },
+            2 => Forms {
+                ends: Some(Gate::Sdg(on)),
+                first: Some(Gate::H(on)),
+            },
+            _ => Forms {
+                ends: Some(Gate::S(on)),
+                first: Some(Gate::H(on)),
+            },
+        },
     }
 }

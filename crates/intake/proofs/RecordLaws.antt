@@ -1,24 +1,25 @@
 -- The tests of a record, by what the record decodes to.
+use Rattle.std.specs.Prelude.{Result, Ok, Err}
 use mathlib.Core.Path.{◌≡◌, refl, ap, sym, ◌∙◌}
 use mathlib.Core.Bool.{Bool, true, false}
-use Prim.Native.Nat.{ℕ}
+use Prim.Native.Nat.{ℕ, ◌<◌}
 use lib.Dec.{T, leb}
 use borrow.Author.Tests.{leb-true, leb-false}
+use Rattle.gates.specs.declared.Gate.{Gate}
 use Rattle.gates.specs.declared.records.Record.{Record}
-use Rattle.gates.specs.declared.records.Decoded.{Decoded}
+use Rattle.gates.specs.declared.records.NoGate.{NoGate}
 use Rattle.gates.specs.Kinds.{Shape, on1, on2, on3, on_bit, angled, unknown, shape_of}
 use Rattle.gates.specs.Records.{unused_of, all_zero, named_by, gate_of}
 use Rattle.gates.proofs.KindLaws.{unknown-from}
-use Rattle.gates.proofs.RecordLaws.{is_known, known-below-27}
-use Rattle.intake.specs.declared.Tested.{Tested}
+use Rattle.gates.proofs.RecordLaws.{is_known, known-below-27, known-kind}
+use Rattle.intake.specs.declared.faults.Refusal.{Refusal}
+use Rattle.intake.specs.Faults.{fault_of, refusal}
 use Rattle.intake.specs.Tests.{position, first_failing, operand_tests, record_tests}
 
 -- 7, 8 and 9 are what a record is refused for before its operands are looked at
-abbrev pub by_decoded : ℕ → ℕ → ℕ → Record → Decoded → Tested
-by_decoded n bits place r (Decoded.Gate g) = first_failing (operand_tests n bits place r)
-by_decoded n bits place r Decoded.Angle = Tested.Refused 7 (position place)
-by_decoded n bits place r Decoded.Unknown = Tested.Refused 8 (position place)
-by_decoded n bits place r Decoded.NotZero = Tested.Refused 9 (position place)
+abbrev pub by_decoded : ℕ → ℕ → ℕ → Record → Result Gate NoGate → Result Unit Refusal
+by_decoded n bits place r (Ok g) = first_failing (operand_tests n bits place r)
+by_decoded n bits place r (Err why) = Err (refusal (fault_of why) (position place))
 
 module _ (n bits place : ℕ) (r : Record) where
   -- a known kind: its shape, and whether what is unused is zero, decide
@@ -50,9 +51,15 @@ module _ (n bits place : ℕ) (r : Record) where
       go false h =
           by_shape (shape_of r.kind) refl (known-below-27 r.kind (leb-false 27 r.kind h)) h (all_zero (unused_of r)) refl
 
--- the same as the code has it: the record as it was read, and what it was decoded to
-pub tested-as : (n bits place : ℕ) (r r₀ : Record) (d d₀ : Decoded) → r ≡ r₀ → d ≡ gate_of r → d ≡ d₀
-    → by_decoded n bits place r d₀ ≡ first_failing (record_tests n bits place r₀)
-tested-as n bits place r r₀ d d₀ e q told =
-    ap (by_decoded n bits place r) (sym told ∙ q) ∙ tested n bits place r
-    ∙ ap (λ (x : Record). first_failing (record_tests n bits place x)) e
+-- the same as the code has it: a record of a gate by its operands, another by why it is none
+pub gate_tested : (n bits place : ℕ) (r : Record) (g : Gate) → gate_of r ≡ Ok g
+    → first_failing (operand_tests n bits place r) ≡ first_failing (record_tests n bits place r)
+gate_tested n bits place r g e = ap (by_decoded n bits place r) (sym e) ∙ tested n bits place r
+
+pub refused_tested : (n bits place : ℕ) (r : Record) (why : NoGate) → gate_of r ≡ Err why
+    → first_failing (record_tests n bits place r) ≡ Err (refusal (fault_of why) (position place))
+refused_tested n bits place r why e = sym (tested n bits place r) ∙ ap (by_decoded n bits place r) e
+
+-- `known-kind` under a name that the attribute of a function can have
+pub kind_of_gate : (r : Record) (g : Gate) → gate_of r ≡ Ok g → r.kind < 27
+kind_of_gate r g e = known-kind r g e

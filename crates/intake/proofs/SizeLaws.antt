@@ -1,10 +1,10 @@
 -- What sizes that passed their tests are known to be.
+use Rattle.std.specs.Prelude.{Ok}
 use mathlib.Core.Path.{◌≡◌}
 use Prim.Native.Nat.{ℕ, ◌+◌, ◌*◌, ◌/◌, ◌%◌, ◌≤◌}
 use native.Mathlib.Omega.{arith}
 use borrow.Author.Tests.{ltb-false, eqb-true, not-false}
 use Rattle.gates.proofs.Joined.{neither}
-use Rattle.intake.specs.declared.Tested.{Tested}
 use Rattle.intake.specs.declared.Sizes.{Sizes}
 use Rattle.intake.specs.Tests.{first_failing, records_in, size_tests}
 use Rattle.intake.proofs.TestLaws.{first_passes}
@@ -20,7 +20,7 @@ pub record Sized (bytes : ℕ) (s : Sizes) : Type 0 where
 whole-records : (bytes : ℕ) → bytes % 16 ≡ 0 → bytes ≡ 16 * (bytes / 16)
 whole-records bytes e = omega arith
 
-pub sized : (bytes : ℕ) (s : Sizes) → first_failing (size_tests bytes s) ≡ Tested.Accepted → Sized bytes s
+pub sized : (bytes : ℕ) (s : Sizes) → first_failing (size_tests bytes s) ≡ Ok tt → Sized bytes s
 unfolding size_tests
 sized bytes s e =
     let t₁ = first_passes _ _ e in
@@ -37,3 +37,6 @@ sized bytes s e =
       output = ltb-false _ _ t₄.0;
       work = ltb-false _ _ t₅.0;
     }
+
+pub bytes_bounded : (bytes : ℕ) (s : Sizes) → first_failing (size_tests bytes s) ≡ Ok tt → bytes ≤ 16777216
+bytes_bounded bytes s e = let known = sized bytes s e in omega arith

@@ -1,4 +1,5 @@
 -- A list that passed the tests of its records is a list of valid gates.
+use Rattle.std.specs.Prelude.{Result, Ok, Err}
 use mathlib.Core.Path.{◌≡◌, refl, ap, sym, ◌∙◌}
 use mathlib.Core.Bool.{Bool, true, false, ◌&&◌, true≢false}
 use mathlib.Core.List.{List, [], ◌∷◌}
@@ -12,12 +13,11 @@ use Rattle.gates.specs.declared.Wire.{Wire}
 use Rattle.gates.specs.declared.Gate.{Gate}
 use Rattle.gates.specs.declared.Gate.TheVariants.{Measure}
 use Rattle.gates.specs.declared.records.Record.{Record}
-use Rattle.gates.specs.declared.records.Decoded.{Decoded}
+use Rattle.gates.specs.declared.records.NoGate.{NoGate}
 use Rattle.gates.specs.Gates.{has, twice, Valid}
 use Rattle.gates.specs.Records.{record_at, gate_of, record_of, operand_words}
 use Rattle.gates.proofs.RoundTrip.{encode-decode, wires-words}
 use Rattle.gates.proofs.Joined.{neither}
-use Rattle.intake.specs.declared.Tested.{Tested}
 use Rattle.intake.specs.Tests.{first_failing, records_in, any_over, operand_tests, record_tests, records_tests, list_tests}
 use Rattle.intake.proofs.TestLaws.{accepted≢refused, first_passes, both-accepted}
 use Rattle.intake.proofs.RecordLaws.{by_decoded, tested}
@@ -25,12 +25,10 @@ use Rattle.intake.proofs.RecordLaws.{by_decoded, tested}
 -- ------------------------------------------------------------ one record
 
 -- what is accepted was decoded to a gate: the other cases are refused
-pub some-gate : (n bits place : ℕ) (r : Record) (d : Decoded) → by_decoded n bits place r d ≡ Tested.Accepted
-    → (g : Gate) × (d ≡ Decoded.Gate g)
-some-gate n bits place r (Decoded.Gate g) e = (g, refl)
-some-gate n bits place r Decoded.Angle e = absurd (accepted≢refused _ _ _ e refl)
-some-gate n bits place r Decoded.Unknown e = absurd (accepted≢refused _ _ _ e refl)
-some-gate n bits place r Decoded.NotZero e = absurd (accepted≢refused _ _ _ e refl)
+pub some-gate : (n bits place : ℕ) (r : Record) (d : Result Gate NoGate) → by_decoded n bits place r d ≡ Ok tt
+    → (g : Gate) × (d ≡ Ok g)
+some-gate n bits place r (Ok g) e = (g, refl)
+some-gate n bits place r (Err why) e = absurd (accepted≢refused _ _ e refl)
 
 -- a wire that is among those of which none is at or over n
 under : (n w : ℕ) (ws : List ℕ) → any_over n ws ≡ false → has w ws ≡ true → w < n
@@ -52,8 +50,8 @@ measured bits r w b e none =
 
 -- ------------------------------------------------------------ every record
 
-pub valid-record : (n bits place : ℕ) (r : Record) → first_failing (record_tests n bits place r) ≡ Tested.Accepted
-    → (g : Gate) × (gate_of r ≡ Decoded.Gate g) × Valid n bits g
+pub valid-record : (n bits place : ℕ) (r : Record) → first_failing (record_tests n bits place r) ≡ Ok tt
+    → (g : Gate) × (gate_of r ≡ Ok g) × Valid n bits g
 unfolding record_tests operand_tests
 valid-record n bits place r e =
     let t₇ = first_passes _ _ e in
@@ -74,8 +72,8 @@ valid-record n bits place r e =
       },
     )
 
-accepted-at : (n bits : ℕ) (list : List ℕ) (place more : ℕ) → first_failing (records_tests n bits list place more) ≡ Tested.Accepted
-    → (i : ℕ) → i < more → first_failing (record_tests n bits (place + i) (record_at list (place + i))) ≡ Tested.Accepted
+accepted-at : (n bits : ℕ) (list : List ℕ) (place more : ℕ) → first_failing (records_tests n bits list place more) ≡ Ok tt
+    → (i : ℕ) → i < more → first_failing (record_tests n bits (place + i) (record_at list (place + i))) ≡ Ok tt
 unfolding records_tests
 accepted-at n bits list place zero e i h = absurd (not-suc-le-zero h)
 accepted-at n bits list place (suc more) e zero h =
@@ -86,7 +84,7 @@ accepted-at n bits list place (suc more) e (suc i) h =
     (both-accepted (record_tests n bits place (record_at list place)) (records_tests n bits list (suc place) more) e).1
     i (le_of_suc-le-suc h))
 
-pub accepted-valid : (n bits : ℕ) (list : List ℕ) → first_failing (list_tests n bits list) ≡ Tested.Accepted
-    → (i : ℕ) → i < records_in (length list) → (g : Gate) × (gate_of (record_at list i) ≡ Decoded.Gate g) × Valid n bits g
+pub accepted-valid : (n bits : ℕ) (list : List ℕ) → first_failing (list_tests n bits list) ≡ Ok tt
+    → (i : ℕ) → i < records_in (length list) → (g : Gate) × (gate_of (record_at list i) ≡ Ok g) × Valid n bits g
 accepted-valid n bits list e i h =
     valid-record n bits i (record_at list i) (rw zero-add at (accepted-at n bits list 0 (records_in (length list)) e i h))

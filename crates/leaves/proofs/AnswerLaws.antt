@@ -1,10 +1,11 @@
 -- An answer is told by what it stands for, so no second one meets the same contract.
-use mathlib.Core.Path.{◌≡◌, refl, ap}
+use mathlib.Core.Path.{◌≡◌}
 use Prim.Native.Nat.{ℕ}
 use native.Mathlib.Omega.{arith}
+use Rattle.std.proofs.lemmas.Grind.{common_steps}
+use Rattle.std.specs.Prelude.{Option as Answer}
 use Rattle.leaves.specs.declared.equal.Two.{Two}
 use Rattle.leaves.specs.declared.equal.Three.{Three}
-use Rattle.leaves.specs.declared.runs.Worth.{Worth}
 use Rattle.leaves.specs.Answers.{two, three, eighths_of}
 
 pub one-two : (r s : Two) → two r ≡ two s → r ≡ s
@@ -20,8 +21,5 @@ one-three r s h =
     let c : r.third.0 ≡ s.third.0 = cc in
     λ i. record { first = record { 0 = a i }; second = record { 0 = b i }; third = record { 0 = c i } }
 
-pub one-worth : (a b : Worth) → eighths_of a ≡ eighths_of b → a ≡ b
-one-worth (Worth.Eighths j) (Worth.Eighths k) h = let e : j ≡ k = cc in ap Worth.Eighths e
-one-worth (Worth.Eighths j) Worth.NotInRun h = let z : ◌≡◌ {A = ℕ} 0 1 = cc in absurd (omega arith)
-one-worth Worth.NotInRun (Worth.Eighths k) h = let z : ◌≡◌ {A = ℕ} 0 1 = cc in absurd (omega arith)
-one-worth Worth.NotInRun Worth.NotInRun h = refl
+pub one-worth : (a b : Answer ℕ) → eighths_of a ≡ eighths_of b → a ≡ b
+one-worth a b h = grind (arith, common_steps)

@@ -1,17 +1,17 @@
 -- Canonical pairs: which gates have one, and that it has their wires, passes the same gates, and tells equal gates.
 use mathlib.Core.Path.{◌≡◌, refl, ap, ap₂, sym, subst, ◌∙◌}
 use mathlib.Core.Bool.{Bool, true, false, not, cond, ◌||◌}
-use mathlib.Core.List.{List, [], ◌∷◌, ◌++◌}
+use mathlib.Core.List.{List, [], ◌∷◌}
 use Prim.Native.Nat.{ℕ}
 use native.Mathlib.Omega.{arith}
-use lib.Dec.{eqb, leb}
+use lib.Dec.{leb}
 use Rattle.gates.specs.declared.Wire.{Wire}
 use Rattle.gates.specs.declared.Gate.{Gate}
 use Rattle.gates.specs.declared.Gate.TheVariants.{X, H, S, Sdg, Z, T, Tdg, Cnot, Cz, Ccx, Ccz, Measure, Reset, Y, Sx, Swap, Cy, Ch, Cswap}
 use Rattle.gates.specs.Gates.{wires_of, has, meet}
 use Rattle.gates.specs.Records.{kind_of, record_of}
 use Rattle.leaves.specs.declared.pairs.CommutingPair.{CommutingPair}
-use Rattle.leaves.specs.declared.pairs.Paired.{Paired}
+use Rattle.std.specs.Prelude.{Some, None}
 use Rattle.rules.specs.Equal.{inserted, sorted, ordered, canonical, equal, is_pair}
 use Rattle.leaves.specs.Answers.{pair_of, as_gate}
 use Rattle.rules.specs.MayPass.{Class, class_of, past_ccx, past_diagonal, past, may_pass}
@@ -45,7 +45,7 @@ sorted-three a b c =
     (x, y, z, all ∙ ap (inserted a.0) rest)
 
 -- a gate and its pair
-pub data PairFor : Gate → CommutingPair → Type 0 where
+data PairFor : Gate → CommutingPair → Type 0 where
   for_cnot : (c t : Wire) → PairFor (Cnot c t) (CommutingPair.Cnot c t)
   for_cz : (a b v w : Wire) → v.0 ∷ w.0 ∷ [] ≡ sorted (a.0 ∷ b.0 ∷ []) → PairFor (Cz a b) (CommutingPair.Cz v w)
   for_ccx : (a b t v w : Wire) → v.0 ∷ w.0 ∷ [] ≡ sorted (a.0 ∷ b.0 ∷ [])
@@ -53,27 +53,21 @@ pub data PairFor : Gate → CommutingPair → Type 0 where
   for_ccz : (a b c u v w : Wire) → u.0 ∷ v.0 ∷ w.0 ∷ [] ≡ sorted (a.0 ∷ b.0 ∷ c.0 ∷ [])
       → PairFor (Ccz a b c) (CommutingPair.Ccz u v w)
 
-pub paired : {g : Gate} {p : CommutingPair} → PairFor g p → Paired.Pair p ≡ pair_of g
+paired : {g : Gate} {p : CommutingPair} → PairFor g p → Some p ≡ pair_of g
 unfolding pair_of canonical ordered has record_of wires_of
 paired (for_cnot c t) = refl
 paired (for_cz a b v w e) = rw (← e)
 paired (for_ccx a b t v w e) = rw (← e)
 paired (for_ccz a b c u v w e) = rw (← e)
 
--- the code has the wires of a ccx all three
-pub ccx-paired : (a b t u v w : Wire) → u.0 ∷ v.0 ∷ w.0 ∷ [] ≡ sorted (a.0 ∷ b.0 ∷ []) ++ (t.0 ∷ [])
-    → Paired.Pair (CommutingPair.Ccx u v w) ≡ pair_of (Ccx a b t)
-unfolding pair_of canonical ordered has record_of wires_of
-ccx-paired a b t u v w e = rw (← e)
-
 -- the pair that is found is the pair that is given
-found-for : {g : Gate} {q : CommutingPair} → PairFor g q → (p : CommutingPair) → pair_of g ≡ Paired.Pair p → PairFor g p
+found-for : {g : Gate} {q : CommutingPair} → PairFor g q → (p : CommutingPair) → pair_of g ≡ Some p → PairFor g p
 found-for {g} {q} f p e = let is : q ≡ p = cc (paired f) in subst (PairFor g) is f
 
-none-for : (g : Gate) (p : CommutingPair) → Paired.Other ≡ Paired.Pair p → PairFor g p
+none-for : (g : Gate) (p : CommutingPair) → None ≡ Some p → PairFor g p
 none-for g p e = let z : ◌≡◌ {A = ℕ} 0 1 = cc in absurd (omega arith)
 
-pair-for : (g : Gate) (p : CommutingPair) → pair_of g ≡ Paired.Pair p → PairFor g p
+pair-for : (g : Gate) (p : CommutingPair) → pair_of g ≡ Some p → PairFor g p
 unfolding pair_of canonical ordered has record_of wires_of
 pair-for (X w) p e = none-for _ p e
 pair-for (H w) p e = none-for _ p e
@@ -105,10 +99,10 @@ about-pair (for_cz a b v w e) = (rw (← e), refl, refl)
 about-pair (for_ccx a b t v w e) = (rw (← e), refl, refl)
 about-pair (for_ccz a b c u v w e) = (e, refl, refl)
 
-pub pair-wires : (g : Gate) (p : CommutingPair) → pair_of g ≡ Paired.Pair p → wires_of (as_gate p) ≡ canonical g
+pub pair-wires : (g : Gate) (p : CommutingPair) → pair_of g ≡ Some p → wires_of (as_gate p) ≡ canonical g
 pair-wires g p e = (about-pair (pair-for g p e)).0
 
-pub pair-kind : (g : Gate) (p : CommutingPair) → pair_of g ≡ Paired.Pair p → kind_of (as_gate p) ≡ kind_of g
+pub pair-kind : (g : Gate) (p : CommutingPair) → pair_of g ≡ Some p → kind_of (as_gate p) ≡ kind_of g
 pair-kind g p e = (about-pair (pair-for g p e)).1
 
 -- ------------------------------------------------------------ what may pass a gate may pass its pair
@@ -136,34 +130,22 @@ past-for (for_ccx a b t v w e) k = controls-alike _ _ _ _ _ (λ u. ap (has u) e 
 past-for (for_ccz a b c u v w e) k = diagonal-alike _ _ (λ n. ap (has n) e ∙ sorted-has n _) k
 
 -- canonical order does not matter to which gates may pass
-pub pair-passes : (g : Gate) (p : CommutingPair) (h : Gate) → pair_of g ≡ Paired.Pair p → may_pass (as_gate p) h ≡ may_pass g h
+pub pair-passes : (g : Gate) (p : CommutingPair) (h : Gate) → pair_of g ≡ Some p → may_pass (as_gate p) h ≡ may_pass g h
 pair-passes g p h e =
     let shared = ap (λ (l : List ℕ). meet l (wires_of h)) (pair-wires g p e) ∙ canonical-meet g (wires_of h) in
     ap₂ (λ (s t : Bool). not s || t) shared (past-for (pair-for g p e) (class_of h))
 
 -- ------------------------------------------------------------ which gates have a pair
 
-pub pair_is : (g : Gate) → is_pair g ≡ false → pair_of g ≡ Paired.Other
-unfolding pair_of has
-pair_is g = go (eqb (kind_of g) 8) (eqb (kind_of g) 9) (eqb (kind_of g) 10) (eqb (kind_of g) 11) _ _ _ _
-  where
-    go : (s t u v : Bool) (a b c d : Paired) → s || (t || (u || (v || false))) ≡ false
-        → cond s a (cond t b (cond u c (cond v d Paired.Other))) ≡ Paired.Other
-    go true t u v a b c d e = cc
-    go false true u v a b c d e = cc
-    go false false true v a b c d e = cc
-    go false false false true a b c d e = cc
-    go false false false false a b c d e = refl
-
-pub is-pair : (g : Gate) (p : CommutingPair) → pair_of g ≡ Paired.Pair p → is_pair g ≡ true
+pub is-pair : (g : Gate) (p : CommutingPair) → pair_of g ≡ Some p → is_pair g ≡ true
 is-pair g p e = (about-pair (pair-for g p e)).2
 
 -- ------------------------------------------------------------ pairs and equal gates
 
-pub same-pair : (a b : Gate) (p : CommutingPair) → pair_of a ≡ Paired.Pair p → equal a b ≡ true → pair_of b ≡ Paired.Pair p
+pub same-pair : (a b : Gate) (p : CommutingPair) → pair_of a ≡ Some p → equal a b ≡ true → pair_of b ≡ Some p
 unfolding pair_of
 same-pair a b p e q = let parts = equal-parts a b q in rw (← parts.0, ← parts.1) e
 
-pub pair_same : (a b : Gate) (p : CommutingPair) → pair_of a ≡ Paired.Pair p → pair_of b ≡ Paired.Pair p → equal a b ≡ true
+pub pair_same : (a b : Gate) (p : CommutingPair) → pair_of a ≡ Some p → pair_of b ≡ Some p → equal a b ≡ true
 pair_same a b p e q =
     is-equal a b (sym (pair-kind a p e) ∙ pair-kind b p q) (sym (pair-wires a p e) ∙ pair-wires b p q)

@@ -1,5 +1,5 @@
 -- What the answers of the code stand for: wires in order, equal gates, canonical pairs, a gate's worth.
-use Rattle.std.specs.Prelude.{Bool, cond, ◌&&◌, List, [], ◌∷◌, ℕ, eqb}
+use Rattle.std.specs.Prelude.{Option as Answer, Some, None, Bool, cond, ◌&&◌, List, [], ◌∷◌, ℕ, eqb}
 use Rattle.std.proofs.Math.Option.{Option, some, none}
 use Rattle.gates.specs.declared.Wire.{Wire}
 use Rattle.gates.specs.declared.Gate.{Gate}
@@ -11,8 +11,6 @@ use Rattle.rules.specs.Equal.{ordered, canonical, same, seven}
 use Rattle.leaves.specs.declared.equal.Two.{Two}
 use Rattle.leaves.specs.declared.equal.Three.{Three}
 use Rattle.leaves.specs.declared.pairs.CommutingPair.{CommutingPair}
-use Rattle.leaves.specs.declared.pairs.Paired.{Paired}
-use Rattle.leaves.specs.declared.runs.Worth.{Worth}
 
 -- ------------------------------------------------------------ wires in order
 
@@ -35,24 +33,24 @@ cancels_by x y =
 
 -- ------------------------------------------------------------ canonical pairs
 
-abbrev pub on_two : (Wire → Wire → CommutingPair) → List ℕ → Paired
-on_two pair [] = Paired.Other
-on_two pair (a ∷ []) = Paired.Other
-on_two pair (a ∷ b ∷ l) = Paired.Pair (pair (wire a) (wire b))
+abbrev pub on_two : (Wire → Wire → CommutingPair) → List ℕ → Answer CommutingPair
+on_two pair [] = None
+on_two pair (a ∷ []) = None
+on_two pair (a ∷ b ∷ l) = Some (pair (wire a) (wire b))
 
-abbrev pub on_three : (Wire → Wire → Wire → CommutingPair) → List ℕ → Paired
-on_three pair [] = Paired.Other
-on_three pair (a ∷ []) = Paired.Other
-on_three pair (a ∷ b ∷ []) = Paired.Other
-on_three pair (a ∷ b ∷ c ∷ l) = Paired.Pair (pair (wire a) (wire b) (wire c))
+abbrev pub on_three : (Wire → Wire → Wire → CommutingPair) → List ℕ → Answer CommutingPair
+on_three pair [] = None
+on_three pair (a ∷ []) = None
+on_three pair (a ∷ b ∷ []) = None
+on_three pair (a ∷ b ∷ c ∷ l) = Some (pair (wire a) (wire b) (wire c))
 
 -- The "canonical pair" of a cnot, cz, ccx or ccz: its kind, and its wires in canonical order.
-unfoldable pub pair_of : Gate → Paired
+unfoldable pub pair_of : Gate → Answer CommutingPair
 pair_of g =
     cond (eqb (kind_of g) 8) (on_two CommutingPair.Cnot (canonical g))
     (cond (eqb (kind_of g) 9) (on_two CommutingPair.Cz (canonical g))
     (cond (eqb (kind_of g) 10) (on_three CommutingPair.Ccx (canonical g))
-    (cond (eqb (kind_of g) 11) (on_three CommutingPair.Ccz (canonical g)) Paired.Other)))
+    (cond (eqb (kind_of g) 11) (on_three CommutingPair.Ccz (canonical g)) None)))
 
 -- A pair as a gate; its wires are the operands in the order in which they are walked.
 unfoldable pub as_gate : CommutingPair → Gate
@@ -64,9 +62,9 @@ as_gate (CommutingPair.Ccz a b c) = Gates.Ccz a b c
 -- ------------------------------------------------------------ runs
 
 -- The worth that an answer of the code stands for.
-abbrev pub eighths_of : Worth → Option ℕ
-eighths_of (Worth.Eighths k) = some k
-eighths_of Worth.NotInRun = none
+abbrev pub eighths_of : Answer ℕ → Option ℕ
+eighths_of (Some k) = some k
+eighths_of None = none
 
 -- What a gate of a kind is worth: t 1, s 2, z 4, sdg 6, tdg 7.
 unfoldable pub worth_by : ℕ → Option ℕ

@@ -1,71 +1,50 @@
 // Gates between two h on a wire.
-ghost use Rattle.std.specs.Prelude.{◌≡◌, cond, [], ◌∷◌};
-ghost use Rattle.std.proofs.Math.Option.{some, none};
-ghost use Rattle.gates.specs.Gates.{has};
+ghost use Rattle.std.specs.Prelude.{◌≡◌};
 ghost use Rattle.rules.specs.Runs.{is_h_on, is_x_on, worth_on};
 ghost use Rattle.leaves.specs.Answers.{eighths_of, worth_by};
 
 use gates::{Gate, Wire};
 
-// What a gate is worth in a run, in eighth turns.
-#[derive(Clone, Copy)]
-pub enum Worth {
-    Eighths(u8),
-    NotInRun,
-}
-
+#[tactic(auto, unfolding(gates::specs::Gates::has, gates::specs::Gates::wires_of, gates::specs::Records::record_of))]
 pub fn is_h(g: Gate, on: Wire) -> bool
     ensures { result ≡ is_h_on on.0 g }
 {
-    match g {
-        Gate::H(w) => w.0 == on.0,
-        _ => false,
-    }
+    g == Gate::H(on)
 }
 
+#[tactic(auto, unfolding(gates::specs::Gates::has, gates::specs::Gates::wires_of, gates::specs::Records::record_of))]
 pub fn is_x(g: Gate, on: Wire) -> bool
     ensures { result ≡ is_x_on on.0 g }
 {
-    match g {
-        Gate::X(w) => w.0 == on.0,
-        _ => false,
-    }
+    g == Gate::X(on)
 }
 
-// The worth of a gate in a run on a wire.
-pub fn diagonal_k(g: Gate, on: Wire) -> Worth
+// What a gate is worth in a run on a wire, in eighth turns; none that is not of the run.
+#[tactic(auto, unfolding(gates::specs::Gates::has, gates::specs::Gates::wires_of, rules::specs::Runs::worth))]
+pub fn diagonal_k(g: Gate, on: Wire) -> Option<u8>
     ensures { eighths_of result ≡ worth_on on.0 g }
 {
-    match g {
-        Gate::T(w) => if_on(w, on, 1),
-        Gate::S(w) => if_on(w, on, 2),
-        Gate::Z(w) => if_on(w, on, 4),
-        Gate::Sdg(w) => if_on(w, on, 6),
-        Gate::Tdg(w) => if_on(w, on, 7),
-        _ => Worth::NotInRun,
-    }
+    let (w, eighths) = match g {
+        Gate::T(w) => (w, 1),
+        Gate::S(w) => (w, 2),
+        Gate::Z(w) => (w, 4),
+        Gate::Sdg(w) => (w, 6),
+        Gate::Tdg(w) => (w, 7),
+        _ => return None,
+    };
+    (w == on).then_some(eighths)
 }
 
-// The worth of a gate on w in a run on another wire or on the same.
-fn if_on(w: Wire, on: Wire, eighths: u8) -> Worth
-    ensures { eighths_of result ≡ cond (has on.0 (w.0 ∷ [])) (some eighths) none }
-{
-    if w.0 == on.0 {
-        Worth::Eighths(eighths)
-    } else {
-        Worth::NotInRun
-    }
-}
-
-// What a gate of a kind is worth in a run. The worths of the kinds from 0 on are digits to the base 16 of one number, since a
-// choice by the kind is guessed wrong most of the time.
-pub fn worth_of(kind: u8) -> Worth
+// What a gate of a kind, by its number, is worth in a run. The worths of the kinds from 0 on are digits to the base 16 of one
+// number, since a choice by the kind is guessed wrong most of the time.
+#[tactic(auto, unfolding(crate::specs::Answers::worth_by))]
+pub fn worth_of(kind: u8) -> Option<u8>
     ensures { eighths_of result ≡ worth_by kind }
 {
     if (2 <= kind) & (kind <= 6) {
         let digits: u32 = 118776320;
-        Worth::Eighths(((digits >> (4 * (kind as u32))) % 16) as u8)
+        Some(((digits >> (4 * (kind as u32))) % 16) as u8)
     } else {
-        Worth::NotInRun
+        None
     }
 }

@@ -9,11 +9,7 @@ pub fn clear(words: &mut [u32], at: usize, count: usize)
     requires { at + count ≤ length words.old }
     ensures { Cleared at count words.old words.new }
 {
-    let mut i = 0;
-    while i < count {
-        words[at + i] = 0;
-        i += 1;
-    }
+    words[at..at + count].fill(0);
 }
 
 // A node on top of a stack: its cell takes what the head held, and the head takes the node.
@@ -28,7 +24,7 @@ pub fn push_on(words: &mut [u32], head: usize, cell: usize, node: u32)
 // A node is passed by: the node before it and the one after it are joined.
 pub fn unlink(words: &mut [u32], next: usize, prev: usize, node: usize)
     requires node_in_bounds { (next + node < length words.old) × (prev + node < length words.old) }
-    requires node_in_bounds_2 { (next + word words.old prev node < length words.old) × (prev + word words.old next node < length words.old) }
+    requires beside_in_bounds { (next + word words.old prev node < length words.old) × (prev + word words.old next node < length words.old) }
     ensures { words.new ≡ set (set words.old (next + word words.old prev node) (word words.old next node)) (prev + word words.old next node) (word words.old prev node) }
 {
     let after = words[next + node];

@@ -8,6 +8,7 @@ use native.Mathlib.Numerals.{add-one}
 use native.Mathlib.Omega.{arith}
 use lib.ListN.{length, length-append, get_or, set, take, drop, replicate, length-drop, length-replicate, get_or-replicate, take-append-drop}
 use lib.Seq.{sets, length-sets, sets-eq, take_at, drop-set-lt, drop-drop, get_or-take, get_or-drop, ext_get_or, length-take-le}
+use borrow.Rule.Slice.PartMut.{mid_of, put_mid}
 use Rattle.gates.specs.declared.Gate.{Gate}
 use Rattle.gates.specs.declared.records.Record.{Record}
 use Rattle.gates.specs.Records.{record_from, record_at, record_of, record_bytes}
@@ -215,8 +216,17 @@ module _ (bytes words : List ℕ) (k : Extent) where
     unfolding list_bytes
     moved_front = rw (none_ahead, append-nil (take (16 * kept) now)) at moved.front
 
-    pub moved-left : zeroed (16 * kept) (16 * (k.gates - kept)) now ≡ records_left bytes words k
+    moved-left : zeroed (16 * kept) (16 * (k.gates - kept)) now ≡ records_left bytes words k
     moved-left =
         let past : 16 * kept + 16 * (k.gates - kept) ≡ 16 * slot = omega (arith, moved.short, moved.inside) in
         let all : slot ≡ k.gates = omega (arith, moved.inside) in
         rw (moved_front, past, moved.rest, all, ← moved-count)
+
+    -- The part behind them is written over with zeros.
+    pub moved-filled : (size : ℕ) (part : List ℕ) → 16 * k.gates ≤ length bytes → size ≡ 16 * k.gates - 16 * kept →
+        part ≡ replicate (length (mid_of (16 * kept) size now)) 0 → put_mid (16 * kept) size now part ≡ records_left bytes words k
+    moved-filled size part room sized zeros =
+        let here : size ≡ 16 * (k.gates - kept) = omega (arith, sized) in
+        let long : length (mid_of (16 * kept) size now) ≡ size =
+        length-take-le size (drop (16 * kept) now) (omega (arith, length-drop (16 * kept) now, sized, room, moved.long, moved.short, moved.inside)) in
+        rw (zeros, long, drop-drop size (16 * kept) now, here) moved-left

@@ -32,6 +32,12 @@ use Rattle.live.proofs.ForwardLaws.{filled_more, filled_within}
 use Rattle.live.proofs.LoadLaws.{begin-loaded, begin-empty, free-slot, push-loaded, push-held, push-within}
 use Rattle.live.proofs.PopLaws.{take_within, pop-loaded, pop-held, pop-within}
 
+-- A live slot's record is one of the lent records.
+pub record-inside : (bytes words : List ℕ) (k : Extent) (slot : ℕ) → Loaded bytes words k → is_live words k slot ≡ true →
+    (16 * slot + 16 ≤ length bytes) × (slot < 1048576)
+record-inside bytes words k slot loaded live =
+    let inside = live_below words k slot live in (omega (arith, inside, loaded.long), omega (arith, inside, loaded.few))
+
 -- ------------------------------------------------------------ an empty list
 
 -- Closing the ends of a side changes words of that side only.
@@ -209,10 +215,6 @@ filled-slot k bytes was now slot r loaded slot< live read hangs filled =
   where
     hangs-read : Hangs 0 k slot (operand_words (record_at bytes slot)) was now
     hangs-read = subst (λ (x : Record). Hangs 0 k slot (operand_words x) was now) read hangs
-
--- A slot named by an equal number.
-pub filled-from : (k : Extent) (bytes words : List ℕ) (i j : ℕ) → i ≡ j → FilledTo bytes words k i → FilledTo bytes words k j
-filled-from k bytes words i j e filled = subst (λ (x : ℕ). FilledTo bytes words k x) e filled
 
 -- Pairs have been linked, then links forward.
 pub linked : (bytes was paired now : List ℕ) (k : Extent) → Loaded bytes was k → Partners bytes paired k → KeepsLoaded k was paired →

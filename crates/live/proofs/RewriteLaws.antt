@@ -1,4 +1,5 @@
 -- Another gate of one wire in a slot: the links stay, and one cell of the list has another gate.
+use Rattle.std.specs.Prelude.{Ok}
 use mathlib.Core.Path.{◌≡◌, refl, sym, ap, subst, ◌∙◌}
 use mathlib.Core.Bool.{Bool, true, false, ◌&&◌, false≢true}
 use mathlib.Core.List.{List, [], ◌∷◌}
@@ -7,7 +8,6 @@ use native.Mathlib.Omega.{arith}
 use lib.ListN.{length, set, length-set}
 use Rattle.gates.specs.declared.Gate.{Gate}
 use Rattle.gates.specs.declared.Gate.TheVariants.{X, H, S, Sdg, Z, T, Tdg, Cnot, Cz, Ccx, Ccz, Measure, Reset, Y, Sx, Swap, Cy, Ch, Cswap}
-use Rattle.gates.specs.declared.records.Decoded.{Decoded}
 use Rattle.gates.specs.Gates.{has, touches, twice, wires_of}
 use Rattle.gates.specs.Records.{record_at, record_of, kind_of, of_kind, gate_of}
 use Rattle.gates.proofs.RoundTrip.{decode-encode}
@@ -169,8 +169,8 @@ module _ (k : Extent) (bytes words : List ℕ) (slot : ℕ) (g : Gate) (live : i
             (λ i j p t. equals-stay i j p) (λ i m. refl) (λ i m. refl) list.partners;
       }
     where
-      reads_now : gate_of (record_at after slot) ≡ Decoded.Gate (gate_in (gate_of (record_at after slot)))
-      reads_now = subst (λ r. gate_of r ≡ Decoded.Gate (gate_in (gate_of r))) (sym record-now) (decode-encode g ∙ ap Decoded.Gate (sym (ap gate_in (decode-encode g))))
+      reads_now : gate_of (record_at after slot) ≡ Ok (gate_in (gate_of (record_at after slot)))
+      reads_now = subst (λ r. gate_of r ≡ Ok (gate_in (gate_of r))) (sym record-now) (decode-encode g ∙ ap Ok (sym (ap gate_in (decode-encode g))))
 
       gate-of : gate_in (gate_of (record_at after slot)) ≡ g
       gate-of = sym (gate-is after slot) ∙ gate-now

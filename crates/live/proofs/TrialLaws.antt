@@ -1,4 +1,5 @@
 -- The trial: a list that is loaded whole, what its slots answer, and the list without one of its gates.
+use Rattle.std.specs.Prelude.{Option as Answer, None}
 use mathlib.Core.Path.{◌≡◌, refl, sym, ap, subst, ◌∙◌}
 use mathlib.Core.Bool.{Bool, true, false, cond, ◌&&◌}
 use mathlib.Core.List.{List, [], ◌∷◌, ◌++◌}
@@ -23,7 +24,7 @@ use Rattle.rules.specs.Sweeps.{cut}
 use Rattle.links.specs.Words.{Within}
 use Rattle.links.proofs.WordLaws.{within_none, within-then}
 use Rattle.slots.specs.declared.Extent.{Extent}
-use Rattle.slots.specs.declared.Found.{Found}
+use Rattle.slots.specs.declared.Slot.{Slot}
 use Rattle.slots.specs.Slots.{gate_at, Sound, cell_of, cells_from, slot_of, left_out, rewritten, found}
 use Rattle.slots.specs.Live.{words_for, is_live, held, earlier, later, Loaded, Live}
 use Rattle.live.specs.Filling.{whole_list}
@@ -171,9 +172,9 @@ module _ (list records work : List ℕ) (k : Extent) (some-gate : 0 < k.gates)
 -- ------------------------------------------------------------ what is asked about a slot
 
 -- The partner of a slot's gate, if that is a cnot, cz, ccx or ccz.
-abbrev pub partner_if : List ℕ → List ℕ → Extent → ℕ → Found
+abbrev pub partner_if : List ℕ → List ℕ → Extent → ℕ → Answer Slot
 partner_if bytes words k slot =
-    cond (is_pair (gate_at bytes slot)) (found (slot_of (cut (equal (gate_at bytes slot)) (later bytes words k slot)))) Found.Nothing
+    cond (is_pair (gate_at bytes slot)) (found (slot_of (cut (equal (gate_at bytes slot)) (later bytes words k slot)))) None
 
 -- A live slot and the record that is read from it.
 module _ (bytes words : List ℕ) (k : Extent) (slot : ℕ) (r : Record)
@@ -209,15 +210,15 @@ module _ (bytes words : List ℕ) (k : Extent) (slot : ℕ) (r : Record)
       between_is r.kind
       ∙ ap (λ (x : Record). has x.kind (8 ∷ 9 ∷ 10 ∷ 11 ∷ [])) (e ∙ sym (record_is k.wires bytes slot sound))
 
-  pub partner-asked : (partner answer : Found) → leb 8 r.kind && leb r.kind 11 ≡ true →
+  pub partner-asked : (partner answer : Answer Slot) → leb 8 r.kind && leb r.kind 11 ≡ true →
       answer ≡ found (slot_of (cut (equal gate) (later bytes words k slot))) → partner ≡ answer → partner ≡ partner_if bytes words k slot
   partner-asked partner answer q a p = rw (sym pair_read ∙ q) (p ∙ a)
 
-  pub partner-none : (partner : Found) → leb 8 r.kind && leb r.kind 11 ≡ false → partner ≡ Found.Nothing →
+  pub partner-none : (partner : Answer Slot) → leb 8 r.kind && leb r.kind 11 ≡ false → partner ≡ None →
       partner ≡ partner_if bytes words k slot
   partner-none partner q p = rw (sym pair_read ∙ q) p
 
-  pub answers-are : (before after blocker partner first last : Found) →
+  pub answers-are : (before after blocker partner first last : Answer Slot) →
       before ≡ found (slot_of (cut (touches (get_or (wires_of gate) 0 0)) (earlier bytes words k slot))) →
       after ≡ found (slot_of (cut (touches (get_or (wires_of gate) 0 0)) (later bytes words k slot))) →
       blocker ≡ found (slot_of (cut (shares gate) (earlier bytes words k slot))) → partner ≡ partner_if bytes words k slot →

@@ -1,14 +1,12 @@
 -- The trial of the live list: a list is loaded whole, one gate is dropped, and what is left is written out.
-use Rattle.std.specs.Prelude.{cond, List, ◌++◌, ℕ, ◌*◌, ◌-◌, ◌/◌, length, get_or, drop, replicate}
+use Rattle.std.specs.Prelude.{None, Result, Ok, Err, cond, List, ◌++◌, ℕ, ◌*◌, ◌-◌, ◌/◌, length, get_or, drop, replicate}
 use Rattle.gates.specs.Gates.{wires_of, touches, shares}
 use Rattle.rules.specs.Equal.{equal, is_pair}
 use Rattle.rules.specs.Steps.{Cell, try, gates_of, cut_at}
 use Rattle.rules.specs.Sweeps.{cut}
-use Rattle.intake.specs.declared.Tested.{Tested}
+use Rattle.intake.specs.declared.faults.Refusal.{Refusal}
 use Rattle.slots.specs.declared.Extent.{Extent}
-use Rattle.slots.specs.declared.Found.{Found}
 use Rattle.live.specs.declared.trial.Answers.{Answers}
-use Rattle.live.specs.declared.trial.Tried.{Tried}
 use Rattle.slots.specs.Slots.{gate_at, slot_of, left_out, found}
 use Rattle.slots.specs.Live.{words_for, held, earlier, later}
 use Rattle.live.specs.Filling.{whole_list}
@@ -33,23 +31,23 @@ answers_of bytes words k slot =
       before = found (slot_of (cut (touches w) (earlier bytes words k slot)));
       after = found (slot_of (cut (touches w) (later bytes words k slot)));
       blocker = found (slot_of (cut (shares g) (earlier bytes words k slot)));
-      partner = cond (is_pair g) (found (slot_of (cut (equal g) (later bytes words k slot)))) Found.Nothing;
+      partner = cond (is_pair g) (found (slot_of (cut (equal g) (later bytes words k slot)))) None;
       first = found (slot_of (cut (touches w) (held bytes words k)));
       last = found (slot_of (cut (touches w) (earlier bytes words k k.gates)));
     }
 
 -- ------------------------------------------------------------ what a trial leaves and answers
 
-abbrev pub records_after : Tested → List ℕ → ℕ → List ℕ → List ℕ
-records_after Tested.Accepted list place records =
+abbrev pub records_after : Result Unit Refusal → List ℕ → ℕ → List ℕ → List ℕ
+records_after (Ok _) list place records =
     list_bytes (gates_of (list_without list place))
     ++ (replicate (16 * (length list / 16 - length (list_without list place))) 0 ++ drop (16 * (length list / 16)) records)
-records_after (Tested.Refused number at) list place records = records
+records_after (Err why) list place records = records
 
-abbrev pub words_after : Tested → List ℕ → ℕ → List ℕ → List ℕ
-words_after Tested.Accepted list wires words = zeroed 0 (words_for (extent_of list wires)) words
-words_after (Tested.Refused number at) list wires words = words
+abbrev pub words_after : Result Unit Refusal → List ℕ → ℕ → List ℕ → List ℕ
+words_after (Ok _) list wires words = zeroed 0 (words_for (extent_of list wires)) words
+words_after (Err why) list wires words = words
 
-abbrev pub tried_as : Tested → List ℕ → ℕ → Tried
-tried_as Tested.Accepted list place = Tried.Done (length (list_without list place))
-tried_as (Tested.Refused number at) list place = Tried.Refused number at
+abbrev pub tried_as : Result Unit Refusal → List ℕ → ℕ → Result ℕ Refusal
+tried_as (Ok _) list place = Ok (length (list_without list place))
+tried_as (Err why) list place = Err why

@@ -2,33 +2,22 @@
 ghost use Rattle.std.specs.Prelude.{◌≡◌, cond, ◌+◌, ◌*◌, ◌≤◌, ◌<◌, length};
 ghost use Rattle.std.proofs.lemmas.List.Edits.{sets};
 ghost use Rattle.gates.specs.Records.{record_at, record_bytes};
-ghost use Rattle.slots.specs.Live.{is_live, held, Loaded};
-ghost use Rattle.live.specs.Finished.{zeroed, records_left, words_left};
+ghost use Rattle.slots.specs.Live.{InLimits, is_live, held, Loaded};
+ghost use Rattle.live.specs.Finished.{records_left, words_left};
 
 use gates::{Position, records};
-use slots::Extent;
-
-// Makes so many bytes from a place on 0.
-pub fn clear_bytes(bytes: &mut [u8], at: usize, count: usize)
-    requires { at + count ≤ length bytes.old }
-    ensures { bytes.new ≡ zeroed at count bytes.old }
-{
-    let mut i = 0;
-    while i < count {
-        bytes[at + i] = 0;
-        i += 1;
-    }
-}
+use slots::{Extent, Slot};
 
 // Moves a slot's record to the end of those that are kept, if it is live; answers how many are kept.
 fn keep_slot(records: &mut [u8], work: &[u32], k: Extent, slot: usize, kept: usize) -> usize
-    requires gates_bound { (k.gates ≤ 1048576) × (k.wires ≤ 65536) × (slot < k.gates) × (kept ≤ slot) }
-    requires gates_in_bounds { (16 * k.gates ≤ length records.old) × (16 * k.gates + 4 * k.wires ≤ length work.now) }
+    requires limits { InLimits k }
+    requires slots_there { (slot < k.gates) × (kept ≤ slot) }
+    requires room { (16 * k.gates ≤ length records.old) × (16 * k.gates + 4 * k.wires ≤ length work.now) }
     ensures moved { records.new ≡ cond (is_live work.now k slot) (sets records.old (16 * kept) (record_bytes (record_at records.old slot))) records.old }
     ensures counted { result ≡ cond (is_live work.now k slot) (kept + 1) kept }
 {
-    if ranks::is_marked(work, 2 * (3 * k.gates + k.wires), k.gates, slot) {
-        let r = records::record_at(records, Position(slot as u32));
+    if ranks::is_marked(work, k.ranks_at(), k.gates, slot) {
+        let r = Slot(slot).record(records);
         records::put_record(records, Position(kept as u32), r);
         kept + 1
     } else {
@@ -47,7 +36,7 @@ pub fn finish(records: &mut [u8], work: &mut [u32], k: Extent) -> usize
     for slot in 0..k.gates {
         kept = keep_slot(records, work, k, slot, kept);
     }
-    clear_bytes(records, 16 * kept, 16 * (k.gates - kept));
+    records[16 * kept..16 * k.gates].fill(0);
     links::clear(work, 0, 16 * k.gates + 4 * k.wires);
     kept
 }

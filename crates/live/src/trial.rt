@@ -3,69 +3,71 @@ ghost use Rattle.std.specs.Prelude.{◌≡◌, true, ℕ, ◌*◌, ◌≤◌, �
 ghost use Rattle.gates.specs.Records.{record_at};
 ghost use Rattle.links.specs.Words.{Within};
 ghost use Rattle.intake.specs.Tests.{first_failing, input_tests};
-ghost use Rattle.intake.specs.declared.JournalRoom.{JournalRoom};
 ghost use Rattle.slots.specs.Slots.{Sound};
 ghost use Rattle.slots.specs.Live.{words_for, is_live, held, Loaded, Live};
 ghost use Rattle.live.specs.Filling.{whole_list};
 ghost use Rattle.live.specs.Trial.{answers_of, dropped_at, records_after, words_after, tried_as};
 
 use crate::{change, finish, load};
-use gates::{Position, Wire, kinds, records};
-use intake::{JournalRoom, Sizes, Tested};
-use slots::{Extent, Found, Slot};
+use asking::linked::LiveList;
+use asking::loaded::LoadedList;
+use gates::records::Record;
+use gates::{Position, Wire, kinds};
+use intake::Sizes;
+use intake::faults::Refusal;
+use slots::{Extent, Slot};
 
-#[derive(Clone, Copy)]
+#[derive(Clone, Copy, PartialEq, Eq)]
 pub struct Answers {
-    pub before: Found,
-    pub after: Found,
-    pub blocker: Found,
-    pub partner: Found,
-    pub first: Found,
-    pub last: Found,
-}
-
-#[derive(Clone, Copy)]
-pub enum Tried {
-    Done { left: usize },
-    Refused { number: u32, place: Position },
+    pub before: Option<Slot>,
+    pub after: Option<Slot>,
+    pub blocker: Option<Slot>,
+    pub partner: Option<Slot>,
+    pub first: Option<Slot>,
+    pub last: Option<Slot>,
 }
 
 // Takes the last gate away, asks for its blocker and puts it back.
 fn reload_last(records: &mut [u8], work: &mut [u32], k: Extent, list: &[u8])
-    requires loaded_2 { Loaded records.old work.old k }
-    requires gates_nonzero { (0 < k.gates) × (16 * k.gates ≤ length list.now) × (held records.old work.old k ≡ whole_list list.now k.gates) }
-    requires by_index { (i : ℕ) → i < k.gates → Sound k.wires (record_at list.now i) }
+    requires loaded { Loaded records.old work.old k }
+    requires whole_list { (0 < k.gates) × (16 * k.gates ≤ length list.now) × (held records.old work.old k ≡ whole_list list.now k.gates) }
+    requires sound { (i : ℕ) → i < k.gates → Sound k.wires (record_at list.now i) }
     ensures loaded { Loaded records.new work.new k }
     ensures whole { held records.new work.new k ≡ whole_list list.now k.gates }
     ensures within { Within 0 (words_for k) work.old work.new }
     ensures past { drop (16 * k.gates) records.new ≡ drop (16 * k.gates) records.old }
 {
     let last = k.gates - 1;
+    let place = Position(last as u32);
     load::pop(records, work, k, Slot(last));
-    let _blocker = asking::blocker_of_next(records, work, k, list, Position(last as u32));
-    load::push(records, work, k, Slot(last), list, Position(last as u32));
+    let rest = LoadedList {
+        records,
+        work,
+        extent: k,
+    };
+    let _blocker = rest.blocker_of_next(list, place);
+    load::push(records, work, k, Slot(last), list, place);
 }
 
 // Asks all that can be asked about a live slot.
-fn ask_all(records: &[u8], work: &[u32], k: Extent, slot: Slot) -> Answers
-    requires live { Live records.now work.now k }
-    requires slot_value { is_live work.now k slot.0 ≡ true }
-    ensures { result ≡ answers_of records.now work.now k slot.0 }
+fn ask_all(list: &LiveList, slot: Slot) -> Answers
+    requires { is_live list.now.work.now list.now.extent slot.0 ≡ true }
+    ensures { result ≡ answers_of list.now.records.now list.now.work.now list.now.extent slot.0 }
 {
-    let r = records::record_at(records, Position(slot.0 as u32));
-    let kind = r.kind;
+    let r = slot.record(list.records);
     let wire = Wire(r.first);
-    let mut partner = Found::Nothing;
-    if (8 <= kind) & (kind <= 11) {
-        partner = asking::partner(records, work, k, slot);
-    }
+    let loaded = list.loaded();
     Answers {
-        before: asking::before_on(records, work, k, slot, 0),
-        after: asking::after_on(records, work, k, slot, 0),
-        blocker: asking::blocker(records, work, k, slot),
-        partner,
-        first: asking::first_on(records, work, k, wire),
-        last: asking::last_on(records, work, k, wire),
+        before: loaded.before_on(slot, 0),
+        after: list.after_on(slot, 0),
+        blocker: loaded.blocker(slot),
+        partner: if (8 <= r.kind) & (r.kind <= 11) {
+            list.partner(slot)
+        } else {
+            None
+        },
+        first: list.first_on(wire),
+        last: loaded.last_on(wire),
     }
 }
 
@@ -77,15 +79,19 @@ fn drop_at(records: &mut [u8], work: &mut [u32], k: Extent, place: Position)
     ensures within { Within 0 (words_for k) work.old work.new }
     ensures past { drop (16 * k.gates) records.new ≡ drop (16 * k.gates) records.old }
 {
-    if (place.0 as usize) < asking::live_count(records, work, k) {
-        let slot = asking::slot_at(records, work, k, place);
-        let _answers = ask_all(records, work, k, slot);
-        let _position = asking::position(records, work, k, slot);
-        let _live = asking::is_live(records, work, k, slot);
+    let list = LiveList {
+        records,
+        work,
+        extent: k,
+    };
+    let loaded = list.loaded();
+    if (place.0 as usize) < loaded.live_count() {
+        let slot = loaded.slot_at(place);
+        let _answers = ask_all(&list, slot);
+        let _position = loaded.position(slot);
+        let _live = loaded.is_live(slot);
         let g = asking::gate_at(records, slot);
-        let r = records::record_of(g);
-        let row = kinds::row_of(r.kind);
-        if row.operands == 1 {
+        if kinds::row_of(Record::from(g).kind).operands == 1 {
             change::rewrite(records, work, k, slot, g);
         }
         change::drop_slot(records, work, k, slot);
@@ -100,10 +106,10 @@ pub fn trial(
     place: Position,
     records: &mut [u8],
     work: &mut [u32],
-) -> Tried
-    ensures records { records.new ≡ records_after (first_failing (input_tests list.now (record { wires = wires; bits = bits; output = length records.old; work = length work.old }) JournalRoom.NotAsked)) list.now place.0 records.old }
-    ensures work { work.new ≡ words_after (first_failing (input_tests list.now (record { wires = wires; bits = bits; output = length records.old; work = length work.old }) JournalRoom.NotAsked)) list.now wires work.old }
-    ensures answer { result ≡ tried_as (first_failing (input_tests list.now (record { wires = wires; bits = bits; output = length records.old; work = length work.old }) JournalRoom.NotAsked)) list.now place.0 }
+) -> Result<usize, Refusal>
+    ensures records { records.new ≡ records_after (first_failing (input_tests list.now (record { wires = wires; bits = bits; output = length records.old; work = length work.old }) None)) list.now place.0 records.old }
+    ensures work { work.new ≡ words_after (first_failing (input_tests list.now (record { wires = wires; bits = bits; output = length records.old; work = length work.old }) None)) list.now wires work.old }
+    ensures answer { result ≡ tried_as (first_failing (input_tests list.now (record { wires = wires; bits = bits; output = length records.old; work = length work.old }) None)) list.now place.0 }
 {
     let sizes = Sizes {
         wires,
@@ -111,10 +117,7 @@ pub fn trial(
         output: records.len(),
         work: work.len(),
     };
-    let tested = intake::test_input(list, sizes, JournalRoom::NotAsked);
-    if let Tested::Refused { number, place } = tested {
-        return Tried::Refused { number, place };
-    }
+    intake::test_input(list, sizes, None)?;
     let k = Extent {
         gates: list.len() / 16,
         wires,
@@ -125,6 +128,5 @@ pub fn trial(
     }
     load::link(records, work, k);
     drop_at(records, work, k, place);
-    let left = finish::finish(records, work, k);
-    Tried::Done { left }
+    Ok(finish::finish(records, work, k))
 }

@@ -1,4 +1,5 @@
 -- The pair sweep while a list is loaded: what one turn does, and all of them.
+use Rattle.std.specs.Prelude.{Some, None}
 use mathlib.Core.Path.{◌≡◌, refl, sym, ap, ap₂, subst, ◌∙◌}
 use mathlib.Core.Bool.{Bool, true, false, not, cond, ◌&&◌}
 use mathlib.Core.List.{List, [], ◌∷◌, ◌++◌, reverse, reverse-cons, reverse-reverse, append-nil, append_cancel_left, tail-eq_of_cons-eq}
@@ -21,7 +22,6 @@ use Rattle.rules.proofs.Cuts.{Parts, cut-is, all-reverse, all_same, reverse-part
 use Rattle.links.specs.Words.{Within}
 use Rattle.links.proofs.WordLaws.{within_none, within-then}
 use Rattle.slots.specs.declared.Slot.{Slot}
-use Rattle.slots.specs.declared.Found.{Found}
 use Rattle.slots.specs.declared.Extent.{Extent}
 use Rattle.slots.specs.Slots.{gate_at, cell_of, cells_from, slot_of, left_out, found}
 use Rattle.slots.specs.Live.{words_for, is_live, held, earlier, later, Loaded}
@@ -34,7 +34,7 @@ use Rattle.journal.proofs.SweepingLaws.{went-none, went_on, went-did}
 use Rattle.journal.proofs.TakenLaws.{left_out_lem}
 use Rattle.pairing.specs.Ahead.{equal_blocker, load_ahead}
 use Rattle.slots.proofs.AnswerLaws.{PartedAt, found-parted, found_none}
-use Rattle.journal.proofs.WentLaws.{room_for, went-fire, went-fits}
+use Rattle.journal.proofs.WentLaws.{room_for, went-fire}
 use Rattle.pairing.proofs.TurnLaws.{blocker-cut, turn-stays, turn-fires, from_next}
 
 -- ------------------------------------------------------------ every cell
@@ -101,118 +101,117 @@ module _ (bytes words list : List ℕ) (k : Extent) (place steps : ℕ) (inside 
   first-ahead : load_ahead bytes words k list place ≡ pairs_from seven gone (cell_of (gate_at list) place ∷ rest)
   first-ahead = ap (pairs_from seven gone) (from_next (λ i. true) (gate_at list) place k.gates true refl inside)
 
-  module _ (answer : Found) (said : answer ≡ found (slot_of (equal_blocker (gate_at list place) gone))) where
-    -- No equal blocker: the gate is loaded.
-    module _ (free : answer ≡ Found.Nothing) (bytes' words' : List ℕ)
-        (pushed : held bytes' words' k ≡ held bytes words k ++ (cell_of (gate_at list) place ∷ [])) where
-      pub load-went : (journal : List ℕ) →
-          Went (load_ahead bytes words k list place) (load_ahead bytes' words' k list (place + 1)) 0 steps steps journal journal
-      load-went journal =
-          went-none _ _ steps journal
-          (first-ahead ∙ turn-stays gone (cell_of (gate_at list) place) rest (found_none (equal_blocker (gate_at list place) gone) answer said free)
-          ∙ ap (λ (l : List (Cell ℕ)). pairs_from seven l rest) (sym (pushed-latest bytes bytes' words words' k (cell_of (gate_at list) place) pushed)))
+  -- No equal blocker: the gate is loaded.
+  module _ (said : None ≡ found (slot_of (equal_blocker (gate_at list place) gone))) (bytes' words' : List ℕ)
+      (pushed : held bytes' words' k ≡ held bytes words k ++ (cell_of (gate_at list) place ∷ [])) where
+    pub load-went : (journal : List ℕ) →
+        Went (load_ahead bytes words k list place) (load_ahead bytes' words' k list (place + 1)) 0 steps steps journal journal
+    load-went journal =
+        went-none _ _ steps journal
+        (first-ahead ∙ turn-stays gone (cell_of (gate_at list) place) rest (found_none (equal_blocker (gate_at list place) gone) None said refl)
+        ∙ ap (λ (l : List (Cell ℕ)). pairs_from seven l rest) (sym (pushed-latest bytes bytes' words words' k (cell_of (gate_at list) place) pushed)))
 
-      pub load-counts : Counts k bytes words place steps → Counts k bytes' words' (place + 1) steps
-      load-counts (below, count) = (
-        subst (λ (l : List (Cell ℕ)). All (λ (e : Cell ℕ). e.beside < place + 1) l) (sym pushed)
-            (all-pushed (λ e. e.beside < place + 1) (held bytes words k) (cell_of (gate_at list) place) (all-wider place (held bytes words k) below) (omega arith)),
-        omega (arith, ap length pushed, length-append (held bytes words k) (cell_of (gate_at list) place ∷ []), count),
+    pub load-counts : Counts k bytes words place steps → Counts k bytes' words' (place + 1) steps
+    load-counts (below, count) = (
+      subst (λ (l : List (Cell ℕ)). All (λ (e : Cell ℕ). e.beside < place + 1) l) (sym pushed)
+          (all-pushed (λ e. e.beside < place + 1) (held bytes words k) (cell_of (gate_at list) place) (all-wider place (held bytes words k) below) (omega arith)),
+      omega (arith, ap length pushed, length-append (held bytes words k) (cell_of (gate_at list) place ∷ []), count),
+    )
+
+  -- An equal blocker: it goes, and the gate is not loaded.
+  module _ (b : Slot) (said : Some b ≡ found (slot_of (equal_blocker (gate_at list place) gone))) where
+    parted : PartedAt (equal_blocker (gate_at list place) gone) b.0
+    parted = found-parted (equal_blocker (gate_at list place) gone) (Some b) b said refl
+
+    abbrev c : Cut ℕ
+    c = parted.parts
+
+    is_cut : (cut (shares (gate_at list place)) gone ≡ some c) × (cancels seven c.here.gate (gate_at list place) ≡ true)
+    is_cut = blocker-cut (gate_at list place) gone c parted.is
+
+    part : CutBelow (is_live words k) (gate_at bytes) (shares (gate_at list place)) k.gates c
+    part = cut-below-parts (is_live words k) (gate_at bytes) (shares (gate_at list place)) k.gates c is_cut.0
+
+    parts : Parts (shares (gate_at list place)) gone (some c)
+    parts = subst (Parts (shares (gate_at list place)) gone) is_cut.0 (cut-is (shares (gate_at list place)) gone)
+
+    pub pop-live : is_live words k b.0 ≡ true
+    pop-live = subst (λ (x : ℕ). is_live words k x ≡ true) parted.slot part.live_here
+
+    pub pop-inside : b.0 < k.gates
+    pop-inside = live_below words k b.0 pop-live
+
+    after_is : c.after ≡ earlier bytes words k b.0
+    after_is = part.after ∙ ap (earlier bytes words k) parted.slot
+
+    here-is : c.here ≡ cell_of (gate_at bytes) b.0
+    here-is = part.here ∙ ap (cell_of (gate_at bytes)) parted.slot
+
+    -- The gates past it, the latest first, stand before it in the cut.
+    before-is : reverse c.before ≡ later bytes words k b.0
+    before-is =
+        tail-eq_of_cons-eq
+        (append_cancel_left (reverse (earlier bytes words k b.0)) (cell_of (gate_at bytes) b.0 ∷ reverse c.before)
+        (cell_of (gate_at bytes) b.0 ∷ later bytes words k b.0)
+        (sym whole ∙ held-parts (is_live words k) (gate_at bytes) b.0 k.gates pop-live pop-inside))
+      where
+        whole : held bytes words k ≡ reverse (earlier bytes words k b.0) ++ (cell_of (gate_at bytes) b.0 ∷ reverse c.before)
+        whole =
+            sym (turned bytes words k) ∙ ap reverse parts.0 ∙ sym (append-nil (reverse (c.before ++ (c.here ∷ c.after))))
+            ∙ reverse-parts c.before c.here c.after []
+            ∙ ap₂ (λ (l : List (Cell ℕ)) (e : Cell ℕ). reverse l ++ (e ∷ (reverse c.before ++ []))) after_is here-is
+            ∙ ap (λ (l : List (Cell ℕ)). reverse (earlier bytes words k b.0) ++ (cell_of (gate_at bytes) b.0 ∷ l)) (append-nil (reverse c.before))
+
+    -- None of them shares a wire with it: it has the wires of the gate that it blocks.
+    pub pop-final : all (λ g. not (shares (gate_at bytes b.0) g)) (later bytes words k b.0) ≡ true
+    pop-final =
+        ap (all (λ g. not (shares (gate_at bytes b.0) g))) (sym before-is)
+        ∙ all-reverse (λ g. not (shares (gate_at bytes b.0) g)) c.before
+        (all_same (λ g. not (shares (gate_at bytes b.0) g)) (λ g. not (shares (gate_at list place) g)) c.before
+        (λ g. ap not (equal-meet (gate_at bytes b.0) (gate_at list place) (wires_of g) (cancels-equal seven (gate_at bytes b.0) (gate_at list place) both)))
+        ∙ parts.2)
+      where
+        both : cancels seven (gate_at bytes b.0) (gate_at list place) ≡ true
+        both = ap (λ (e : Cell ℕ). cancels seven e.gate (gate_at list place)) (sym here-is) ∙ is_cut.1
+
+    fires : load_ahead bytes words k list place
+        ≡ fire 1 (length (earlier bytes words k b.0)) (length gone) (pairs_from seven (without c) rest)
+    fires =
+        first-ahead ∙ turn-fires gone (cell_of (gate_at list) place) rest c parted.is
+        ∙ ap (λ (l : List (Cell ℕ)). fire 1 (length l) (length gone) (pairs_from seven (without c) rest)) after_is
+
+    pub pop-room : (size : ℕ) → 16 * (steps + length (load_ahead bytes words k list place).steps) ≤ size → 16 * steps + 16 ≤ size
+    pop-room size = room_for _ _ _ _ _ steps size fires
+
+    module _ (now : List ℕ) (popped : held bytes now k ≡ left_out b.0 (held bytes words k)) where
+      left : without c ≡ earlier bytes now k k.gates
+      left = popped-rest bytes words now k (shares (gate_at list place)) c b.0 parted.slot part popped
+
+      pub pop-went : Counts k bytes words place steps → (journal written : List ℕ) (kind first : ℕ) →
+          kind ≡ 1 → first ≡ length (earlier bytes words k b.0) →
+          written ≡ sets journal (16 * steps) (step_bytes (step kind first (place - 2 * steps))) →
+          Went (load_ahead bytes words k list place) (load_ahead bytes now k list (place + 1)) 0 steps (steps + 1) journal written
+      pop-went (below, count) journal written kind first one p w =
+          let last : place - 2 * steps ≡ length gone = omega (arith, count, turned-length bytes words k) in
+          went-fire _ _ _ _ _ steps journal written
+          (fires ∙ ap (λ (l : List (Cell ℕ)). fire 1 (length (earlier bytes words k b.0)) (length gone) (pairs_from seven l rest)) left)
+          (w ∙ cc (one, p, last))
+
+      pub pop-counts : Counts k bytes words place steps → Counts k bytes now (place + 1) (steps + 1)
+      pop-counts (below, count) = (
+        subst (λ (l : List (Cell ℕ)). All (λ (e : Cell ℕ). e.beside < place + 1) l) (sym popped)
+            (all_left (λ e. e.beside < place + 1) b.0 (held bytes words k) (all-wider place (held bytes words k) below)),
+        omega (
+          arith,
+          count,
+          turned-length bytes words k,
+          turned-length bytes now k,
+          ap length left,
+          ap length parts.0,
+          length-append c.before c.after,
+          length-append c.before (c.here ∷ c.after),
+        ),
       )
-
-    -- An equal blocker: it goes, and the gate is not loaded.
-    module _ (b : Slot) (at : answer ≡ Found.At b) where
-      parted : PartedAt (equal_blocker (gate_at list place) gone) b.0
-      parted = found-parted (equal_blocker (gate_at list place) gone) answer b said at
-
-      abbrev c : Cut ℕ
-      c = parted.parts
-
-      is_cut : (cut (shares (gate_at list place)) gone ≡ some c) × (cancels seven c.here.gate (gate_at list place) ≡ true)
-      is_cut = blocker-cut (gate_at list place) gone c parted.is
-
-      part : CutBelow (is_live words k) (gate_at bytes) (shares (gate_at list place)) k.gates c
-      part = cut-below-parts (is_live words k) (gate_at bytes) (shares (gate_at list place)) k.gates c is_cut.0
-
-      parts : Parts (shares (gate_at list place)) gone (some c)
-      parts = subst (Parts (shares (gate_at list place)) gone) is_cut.0 (cut-is (shares (gate_at list place)) gone)
-
-      pub pop-live : is_live words k b.0 ≡ true
-      pop-live = subst (λ (x : ℕ). is_live words k x ≡ true) parted.slot part.live_here
-
-      pub pop-inside : b.0 < k.gates
-      pop-inside = live_below words k b.0 pop-live
-
-      after_is : c.after ≡ earlier bytes words k b.0
-      after_is = part.after ∙ ap (earlier bytes words k) parted.slot
-
-      here-is : c.here ≡ cell_of (gate_at bytes) b.0
-      here-is = part.here ∙ ap (cell_of (gate_at bytes)) parted.slot
-
-      -- The gates past it, the latest first, stand before it in the cut.
-      before-is : reverse c.before ≡ later bytes words k b.0
-      before-is =
-          tail-eq_of_cons-eq
-          (append_cancel_left (reverse (earlier bytes words k b.0)) (cell_of (gate_at bytes) b.0 ∷ reverse c.before)
-          (cell_of (gate_at bytes) b.0 ∷ later bytes words k b.0)
-          (sym whole ∙ held-parts (is_live words k) (gate_at bytes) b.0 k.gates pop-live pop-inside))
-        where
-          whole : held bytes words k ≡ reverse (earlier bytes words k b.0) ++ (cell_of (gate_at bytes) b.0 ∷ reverse c.before)
-          whole =
-              sym (turned bytes words k) ∙ ap reverse parts.0 ∙ sym (append-nil (reverse (c.before ++ (c.here ∷ c.after))))
-              ∙ reverse-parts c.before c.here c.after []
-              ∙ ap₂ (λ (l : List (Cell ℕ)) (e : Cell ℕ). reverse l ++ (e ∷ (reverse c.before ++ []))) after_is here-is
-              ∙ ap (λ (l : List (Cell ℕ)). reverse (earlier bytes words k b.0) ++ (cell_of (gate_at bytes) b.0 ∷ l)) (append-nil (reverse c.before))
-
-      -- None of them shares a wire with it: it has the wires of the gate that it blocks.
-      pub pop-final : all (λ g. not (shares (gate_at bytes b.0) g)) (later bytes words k b.0) ≡ true
-      pop-final =
-          ap (all (λ g. not (shares (gate_at bytes b.0) g))) (sym before-is)
-          ∙ all-reverse (λ g. not (shares (gate_at bytes b.0) g)) c.before
-          (all_same (λ g. not (shares (gate_at bytes b.0) g)) (λ g. not (shares (gate_at list place) g)) c.before
-          (λ g. ap not (equal-meet (gate_at bytes b.0) (gate_at list place) (wires_of g) (cancels-equal seven (gate_at bytes b.0) (gate_at list place) both)))
-          ∙ parts.2)
-        where
-          both : cancels seven (gate_at bytes b.0) (gate_at list place) ≡ true
-          both = ap (λ (e : Cell ℕ). cancels seven e.gate (gate_at list place)) (sym here-is) ∙ is_cut.1
-
-      fires : load_ahead bytes words k list place
-          ≡ fire 1 (length (earlier bytes words k b.0)) (length gone) (pairs_from seven (without c) rest)
-      fires =
-          first-ahead ∙ turn-fires gone (cell_of (gate_at list) place) rest c parted.is
-          ∙ ap (λ (l : List (Cell ℕ)). fire 1 (length l) (length gone) (pairs_from seven (without c) rest)) after_is
-
-      pub pop-room : (size : ℕ) → 16 * (steps + length (load_ahead bytes words k list place).steps) ≤ size → 16 * steps + 16 ≤ size
-      pop-room size = room_for _ _ _ _ _ steps size fires
-
-      module _ (now : List ℕ) (popped : held bytes now k ≡ left_out b.0 (held bytes words k)) where
-        left : without c ≡ earlier bytes now k k.gates
-        left = popped-rest bytes words now k (shares (gate_at list place)) c b.0 parted.slot part popped
-
-        pub pop-went : Counts k bytes words place steps → (journal written : List ℕ) (first : ℕ) →
-            first ≡ length (earlier bytes words k b.0) →
-            written ≡ sets journal (16 * steps) (step_bytes (step 1 first (place - 2 * steps))) →
-            Went (load_ahead bytes words k list place) (load_ahead bytes now k list (place + 1)) 0 steps (steps + 1) journal written
-        pop-went (below, count) journal written first p w =
-            let last : place - 2 * steps ≡ length gone = omega (arith, count, turned-length bytes words k) in
-            went-fire _ _ _ _ _ steps journal written
-            (fires ∙ ap (λ (l : List (Cell ℕ)). fire 1 (length (earlier bytes words k b.0)) (length gone) (pairs_from seven l rest)) left)
-            (w ∙ ap₂ (λ (x y : ℕ). sets journal (16 * steps) (step_bytes (step 1 x y))) p last)
-
-        pub pop-counts : Counts k bytes words place steps → Counts k bytes now (place + 1) (steps + 1)
-        pop-counts (below, count) = (
-          subst (λ (l : List (Cell ℕ)). All (λ (e : Cell ℕ). e.beside < place + 1) l) (sym popped)
-              (all_left (λ e. e.beside < place + 1) b.0 (held bytes words k) (all-wider place (held bytes words k) below)),
-          omega (
-            arith,
-            count,
-            turned-length bytes words k,
-            turned-length bytes now k,
-            ap length left,
-            ap length parts.0,
-            length-append c.before c.after,
-            length-append c.before (c.here ∷ c.after),
-          ),
-        )
 
 -- A record that is put into a slot leaves all past the slots.
 pub load_past : (bytes bytes' list : List ℕ) (gates place : ℕ) → place < gates →
@@ -264,10 +263,6 @@ paired_none list records work journal k loaded empty =
 
 module _ (list records₀ work₀ journal₀ : List ℕ) (k : Extent) (i : ℕ) (records work journal : List ℕ) (steps : ℕ)
     (to : PairedTo list records₀ work₀ journal₀ k i records work journal steps) where
-  pub paired-fits : 16 * length (pair_sweep seven (whole_list list k.gates)).steps ≤ length journal₀ →
-      16 * (steps + length (load_ahead records work k list i).steps) ≤ length journal
-  paired-fits room = went-fits _ _ 0 0 steps journal₀ journal to.went (omega (arith, room))
-
   pub paired-more : (records' work' journal' : List ℕ) (s : ℕ) → i < k.gates → length records' ≡ length records → Loaded records' work' k →
       Counts k records' work' (i + 1) s →
       Went (load_ahead records work k list i) (load_ahead records' work' k list (i + 1)) 0 steps s journal journal' →

@@ -1,9 +1,12 @@
 -- The search for an equal blocker in code: a kind that cancels, a blocker, and two records that are equal.
+use Rattle.std.specs.Prelude.{Option as Answer, Some, None}
 use mathlib.Core.Path.{◌≡◌, refl, sym, ap, ap₂, subst, ◌∙◌}
 use mathlib.Core.Bool.{Bool, true, false, false≢true}
 use mathlib.Core.List.{List}
 use mathlib.Core.Option.{Option, some, none}
-use Prim.Native.Nat.{ℕ, ◌<◌}
+use Prim.Native.Nat.{ℕ, ◌+◌, ◌*◌, ◌≤◌, ◌<◌}
+use native.Mathlib.Omega.{arith}
+use lib.ListN.{length}
 use Rattle.gates.specs.declared.Gate.{Gate}
 use Rattle.gates.specs.declared.records.Record.{Record}
 use Rattle.gates.specs.Gates.{has, shares}
@@ -16,7 +19,6 @@ use Rattle.rules.proofs.EqualLaws.{cancels-equal, equal-parts}
 use Rattle.leaves.specs.Answers.{cancels_by}
 use Rattle.leaves.proofs.EqualCode.{records-cancel}
 use Rattle.slots.specs.declared.Slot.{Slot}
-use Rattle.slots.specs.declared.Found.{Found}
 use Rattle.slots.specs.declared.Extent.{Extent}
 use Rattle.slots.specs.Slots.{gate_at, Sound, slot_of, found, slot_as}
 use Rattle.slots.specs.Live.{is_live, earlier, Loaded}
@@ -66,47 +68,49 @@ module _ (bytes words list : List ℕ) (k : Extent) (i place : ℕ) (s : Record)
   abbrev gone : List (Cell ℕ)
   gone = earlier bytes words k i
 
-  abbrev Said : Found → Type 0
+  abbrev Said : Answer Slot → Type 0
   Said r = r ≡ found (slot_of (equal_blocker g gone))
 
   said-as : (o : Option (Cut ℕ)) → equal_blocker g gone ≡ o → Said (found (slot_of o))
   said-as o e = ap (λ (x : Option (Cut ℕ)). found (slot_of x)) (sym e)
 
-  pub kind-stays : (b : Bool) → b ≡ has s.kind seven → b ≡ false → Said Found.Nothing
+  pub kind-stays : (b : Bool) → b ≡ has s.kind seven → b ≡ false → Said None
   kind-stays b e f =
       said-as none (no_kind g gone (ap (λ (x : Record). has x.kind seven) (record_is k.wires list place sound ∙ sym read) ∙ sym e ∙ f))
 
-  -- What was found for its blocker.
-  module _ (answer : Found) (said : answer ≡ found (slot_of (cut (shares g) gone))) where
-    pub free_stays : answer ≡ Found.Nothing → Said Found.Nothing
-    free_stays p = said-as none (no-blocker g gone (found_none (cut (shares g) gone) answer said p))
+  pub free-stays : None ≡ found (slot_of (cut (shares g) gone)) → Said None
+  free-stays said = said-as none (no-blocker g gone (found_none (cut (shares g) gone) None said refl))
 
-    module _ (b : Slot) (at : answer ≡ Found.At b) where
-      parted : PartedAt (cut (shares g) gone) b.0
-      parted = found-parted (cut (shares g) gone) answer b said at
+  -- A blocker was found.
+  module _ (b : Slot) (said : Some b ≡ found (slot_of (cut (shares g) gone))) where
+    parted : PartedAt (cut (shares g) gone) b.0
+    parted = found-parted (cut (shares g) gone) (Some b) b said refl
 
-      part : CutBelow (is_live words k) (gate_at bytes) (shares g) i parted.parts
-      part = cut-below-parts (is_live words k) (gate_at bytes) (shares g) i parted.parts parted.is
+    part : CutBelow (is_live words k) (gate_at bytes) (shares g) i parted.parts
+    part = cut-below-parts (is_live words k) (gate_at bytes) (shares g) i parted.parts parted.is
 
-      blocker-live : is_live words k b.0 ≡ true
-      blocker-live = subst (λ (x : ℕ). is_live words k x ≡ true) parted.slot part.live_here
+    blocker-live : is_live words k b.0 ≡ true
+    blocker-live = subst (λ (x : ℕ). is_live words k x ≡ true) parted.slot part.live_here
 
-      pub blocker-inside : b.0 < k.gates
-      blocker-inside = live_below words k b.0 blocker-live
+    -- Its record can be read.
+    pub blocker-inside : (16 * b.0 + 16 ≤ length bytes) × (b.0 < 1048576)
+    blocker-inside =
+        let inside : b.0 < k.gates = live_below words k b.0 blocker-live in
+        (omega (arith, l.long), omega (arith, l.few))
 
-      -- Its record has been read and compared.
-      module _ (r : Record) (t : Bool) (reads : r ≡ record_at bytes b.0) (compared : t ≡ cancels_by r s) where
-        same_test : cancels seven parted.parts.here.gate g ≡ t
-        same_test =
-            ap (λ (h : Gate). cancels seven h g) (ap (λ (e : Cell ℕ). e.gate) part.here ∙ ap (gate_at bytes) parted.slot)
-            ∙ sym (records-cancel (gate_at bytes b.0) g)
-            ∙ ap₂ cancels_by (record_is k.wires bytes b.0 (l.sound b.0 blocker-live) ∙ sym reads) (record_is k.wires list place sound ∙ sym read)
-            ∙ sym compared
+    -- It has been read and compared.
+    module _ (r : Record) (t : Bool) (reads : r ≡ record_at bytes b.0) (compared : t ≡ cancels_by r s) where
+      same_test : cancels seven parted.parts.here.gate g ≡ t
+      same_test =
+          ap (λ (h : Gate). cancels seven h g) (ap (λ (e : Cell ℕ). e.gate) part.here ∙ ap (gate_at bytes) parted.slot)
+          ∙ sym (records-cancel (gate_at bytes b.0) g)
+          ∙ ap₂ cancels_by (record_is k.wires bytes b.0 (l.sound b.0 blocker-live) ∙ sym reads) (record_is k.wires list place sound ∙ sym read)
+          ∙ sym compared
 
-        pub equal-goes : t ≡ true → Said (Found.At b)
-        equal-goes e =
-            ap (λ (x : ℕ). Found.At (slot_as x)) (sym parted.slot)
-            ∙ said-as (some parted.parts) (tested g gone parted.parts true parted.is (same_test ∙ e))
+      pub equal-goes : t ≡ true → Said (Some b)
+      equal-goes e =
+          ap (λ (x : ℕ). Some (slot_as x)) (sym parted.slot)
+          ∙ said-as (some parted.parts) (tested g gone parted.parts true parted.is (same_test ∙ e))
 
-        pub unequal-stays : t ≡ false → Said Found.Nothing
-        unequal-stays e = said-as none (tested g gone parted.parts false parted.is (same_test ∙ e))
+      pub unequal-stays : t ≡ false → Said None
+      unequal-stays e = said-as none (tested g gone parted.parts false parted.is (same_test ∙ e))

@@ -1,5 +1,6 @@
 -- The pair sweep over the live list: what one turn does, and all of them.
-use mathlib.Core.Path.{◌≡◌, ap, subst, ◌∙◌}
+use Rattle.std.specs.Prelude.{Some, None}
+use mathlib.Core.Path.{◌≡◌, refl, ap, subst, ◌∙◌}
 use mathlib.Core.Bool.{true, false}
 use mathlib.Core.List.{List, []}
 use Prim.Native.Nat.{ℕ, ◌+◌, ◌*◌, ◌-◌, ◌≤◌, ◌<◌}
@@ -13,7 +14,6 @@ use Rattle.rules.specs.Journal.{step_bytes}
 use Rattle.links.specs.Words.{Within}
 use Rattle.links.proofs.WordLaws.{within_none, within-then}
 use Rattle.slots.specs.declared.Slot.{Slot}
-use Rattle.slots.specs.declared.Found.{Found}
 use Rattle.slots.specs.declared.Extent.{Extent}
 use Rattle.slots.specs.Slots.{gate_at, cells_from, cells_below, slot_of, found}
 use Rattle.slots.specs.Live.{words_for, is_live, held, earlier, Live}
@@ -22,7 +22,7 @@ use Rattle.journal.specs.Sweeping.{Did, Went, TakenOut}
 use Rattle.journal.proofs.SweepingLaws.{went-none, went_on, went-did}
 use Rattle.pairing.specs.Ahead.{equal_blocker, pairs_ahead}
 use Rattle.slots.proofs.AnswerLaws.{PartedAt, found-parted, found_none}
-use Rattle.journal.proofs.WentLaws.{room_for, went-fire, went-fits}
+use Rattle.journal.proofs.WentLaws.{room_for, went-fire}
 use Rattle.pairing.proofs.TurnLaws.{slot-skipped, slot-stays, parted-live, parted-below, slots-fire, slots-go}
 
 -- ------------------------------------------------------------ one turn
@@ -32,38 +32,38 @@ module _ (bytes words : List ℕ) (k : Extent) (slot steps : ℕ) (journal : Lis
       Went (pairs_ahead bytes words k slot) (pairs_ahead bytes words k (slot + 1)) 0 steps steps journal journal
   turn-skips off = went-none _ _ steps journal (slot-skipped (is_live words k) (gate_at bytes) k.gates slot inside off)
 
-  -- What was found for the equal blocker of a live slot.
-  module _ (on : is_live words k slot ≡ true) (answer : Found)
-      (said : answer ≡ found (slot_of (equal_blocker (gate_at bytes slot) (earlier bytes words k slot)))) where
-    pub turn-keeps : answer ≡ Found.Nothing →
-        Went (pairs_ahead bytes words k slot) (pairs_ahead bytes words k (slot + 1)) 0 steps steps journal journal
-    turn-keeps p =
-        went-none _ _ steps journal
-        (slot-stays (is_live words k) (gate_at bytes) k.gates slot inside on
-        (found_none (equal_blocker (gate_at bytes slot) (earlier bytes words k slot)) answer said p))
+  -- A live slot that has no equal blocker.
+  pub turn-keeps : is_live words k slot ≡ true → None ≡ found (slot_of (equal_blocker (gate_at bytes slot) (earlier bytes words k slot))) →
+      Went (pairs_ahead bytes words k slot) (pairs_ahead bytes words k (slot + 1)) 0 steps steps journal journal
+  turn-keeps on said =
+      went-none _ _ steps journal
+      (slot-stays (is_live words k) (gate_at bytes) k.gates slot inside on
+      (found_none (equal_blocker (gate_at bytes slot) (earlier bytes words k slot)) None said refl))
 
-    module _ (b : Slot) (at : answer ≡ Found.At b) where
-      parted : PartedAt (equal_blocker (gate_at bytes slot) (earlier bytes words k slot)) b.0
-      parted = found-parted (equal_blocker (gate_at bytes slot) (earlier bytes words k slot)) answer b said at
+  -- One that has.
+  module _ (on : is_live words k slot ≡ true) (b : Slot)
+      (said : Some b ≡ found (slot_of (equal_blocker (gate_at bytes slot) (earlier bytes words k slot)))) where
+    parted : PartedAt (equal_blocker (gate_at bytes slot) (earlier bytes words k slot)) b.0
+    parted = found-parted (equal_blocker (gate_at bytes slot) (earlier bytes words k slot)) (Some b) b said refl
 
-      pub pair-live : (is_live words k b.0 ≡ true) × (is_live words k slot ≡ true) × (b.0 < slot)
-      pair-live = (
-        parted-live (is_live words k) (gate_at bytes) k.gates slot b.0 inside on parted,
-        on,
-        parted-below (is_live words k) (gate_at bytes) k.gates slot b.0 inside on parted,
-      )
+    pub pair-live : (is_live words k b.0 ≡ true) × (is_live words k slot ≡ true) × (b.0 < slot)
+    pair-live = (
+      parted-live (is_live words k) (gate_at bytes) k.gates slot b.0 inside on parted,
+      on,
+      parted-below (is_live words k) (gate_at bytes) k.gates slot b.0 inside on parted,
+    )
 
-      pub pair-room : 16 * (steps + length (pairs_ahead bytes words k slot).steps) ≤ length journal → 16 * steps + 16 ≤ length journal
-      pair-room =
-          room_for _ _ _ _ _ steps (length journal) (slots-fire (is_live words k) (gate_at bytes) k.gates slot b.0 inside on parted)
+    pub pair-room : 16 * (steps + length (pairs_ahead bytes words k slot).steps) ≤ length journal → 16 * steps + 16 ≤ length journal
+    pair-room =
+        room_for _ _ _ _ _ steps (length journal) (slots-fire (is_live words k) (gate_at bytes) k.gates slot b.0 inside on parted)
 
-      -- Both have gone, and the step has been written.
-      pub turn-takes : (now written : List ℕ) → TakenOut k b.0 slot words now →
-          written ≡ sets journal (16 * steps) (step_bytes (step 1 (length (earlier bytes words k b.0)) (length (earlier bytes words k slot)))) →
-          Went (pairs_ahead bytes words k slot) (pairs_ahead bytes now k (slot + 1)) 0 steps (steps + 1) journal written
-      turn-takes now written taken w =
-          went-fire _ _ _ _ _ steps journal written
-          (slots-go (is_live words k) (gate_at bytes) k.gates slot b.0 inside on parted (is_live now k) taken) w
+    -- Both have gone, and the step has been written.
+    pub turn-takes : (now written : List ℕ) (kind : ℕ) → kind ≡ 1 → TakenOut k b.0 slot words now →
+        written ≡ sets journal (16 * steps) (step_bytes (step kind (length (earlier bytes words k b.0)) (length (earlier bytes words k slot)))) →
+        Went (pairs_ahead bytes words k slot) (pairs_ahead bytes now k (slot + 1)) 0 steps (steps + 1) journal written
+    turn-takes now written kind one taken w =
+        went-fire _ _ _ _ _ steps journal written
+        (slots-go (is_live words k) (gate_at bytes) k.gates slot b.0 inside on parted (is_live now k) taken) (w ∙ cc one)
 
 -- ------------------------------------------------------------ all turns
 
@@ -100,10 +100,6 @@ swept_none bytes words journal k steps live =
 
 module _ (bytes words₀ journal₀ : List ℕ) (k : Extent) (steps i : ℕ) (words journal : List ℕ) (s : ℕ)
     (to : SweptTo bytes words₀ journal₀ k steps i words journal s) where
-  pub swept-fits : 16 * (steps + length (pair_sweep seven (held bytes words₀ k)).steps) ≤ length journal₀ →
-      16 * (s + length (pairs_ahead bytes words k i).steps) ≤ length journal
-  swept-fits = went-fits _ _ 0 steps s journal₀ journal to.went
-
   pub swept-more : (words' journal' : List ℕ) (s' : ℕ) → i < k.gates → Live bytes words' k →
       Went (pairs_ahead bytes words k i) (pairs_ahead bytes words' k (i + 1)) 0 s s' journal journal' → Within 0 (words_for k) words words' →
       SweptTo bytes words₀ journal₀ k steps (i + 1) words' journal' s'

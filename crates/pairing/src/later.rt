@@ -8,26 +8,24 @@ ghost use Rattle.slots.specs.Live.{words_for, is_live, held, earlier, Live};
 ghost use Rattle.journal.specs.Sweeping.{Did, Went};
 ghost use Rattle.pairing.specs.Ahead.{equal_blocker, pairs_ahead};
 
-use gates::{Position, records};
+use asking::loaded::LoadedList;
+use journal::StepKind;
 use leaves::equal;
-use slots::{Extent, Found, Slot};
+use slots::{Extent, Slot};
 
 // The blocker of the gate in a slot, if the two are equal and cancel.
-fn equal_blocker(records: &[u8], work: &[u32], k: Extent, slot: Slot) -> Found
-    requires live { Live records.now work.now k }
-    requires slot_value { is_live work.now k slot.0 ≡ true }
-    ensures { result ≡ found (slot_of (equal_blocker (gate_at records.now slot.0) (earlier records.now work.now k slot.0))) }
+fn equal_blocker(loaded: &LoadedList, slot: Slot) -> Option<Slot>
+    requires { is_live loaded.now.work.now loaded.now.extent slot.0 ≡ true }
+    ensures { result ≡ found (slot_of (equal_blocker (gate_at loaded.now.records.now slot.0) (earlier loaded.now.records.now loaded.now.work.now loaded.now.extent slot.0))) }
 {
-    let r = records::record_at(records, Position(slot.0 as u32));
+    let r = slot.record(loaded.records);
     if equal::kind_cancels(r.kind) {
-        let blocker = asking::blocker(records, work, k, slot);
-        if let Found::At(b) = blocker {
-            if equal::records_equal(records::record_at(records, Position(b.0 as u32)), r) {
-                return blocker;
-            }
+        let blocker = loaded.blocker(slot)?;
+        if equal::records_equal(blocker.record(loaded.records), r) {
+            return Some(blocker);
         }
     }
-    Found::Nothing
+    None
 }
 
 // One turn of the sweep: a live gate and its blocker go, if they are equal and cancel.
@@ -39,16 +37,21 @@ fn cancel_at(
     slot: Slot,
     steps: usize,
 ) -> usize
-    requires live_2 { Live records.now work.old k }
-    requires slot_lt_gates { (slot.0 < k.gates) × (16 * (steps + length (pairs_ahead records.now work.old k slot.0).steps) ≤ length journal.old) }
+    requires live { Live records.now work.old k }
+    requires room { (slot.0 < k.gates) × (16 * (steps + length (pairs_ahead records.now work.old k slot.0).steps) ≤ length journal.old) }
     ensures live { Live records.now work.new k }
     ensures went { Went (pairs_ahead records.now work.old k slot.0) (pairs_ahead records.now work.new k (slot.0 + 1)) 0 steps result journal.old journal.new }
     ensures within { Within 0 (words_for k) work.old work.new }
 {
-    if asking::is_live(records, work, k, slot) {
-        let blocker = equal_blocker(records, work, k, slot);
-        if let Found::At(b) = blocker {
-            journal::take_pair(records, work, journal, k, 1, b, slot, steps);
+    let loaded = LoadedList {
+        records,
+        work,
+        extent: k,
+    };
+    if loaded.is_live(slot) {
+        if let Some(blocker) = equal_blocker(&loaded, slot) {
+            let kind = StepKind::Pair.number();
+            journal::take_pair(records, work, journal, k, kind, blocker, slot, steps);
             return steps + 1;
         }
     }
@@ -63,8 +66,8 @@ pub fn cancel_pairs(
     k: Extent,
     steps: usize,
 ) -> usize
-    requires live_2 { Live records.now work.old k }
-    requires k_in_bounds { 16 * (steps + length (pair_sweep seven (held records.now work.old k)).steps) ≤ length journal.old }
+    requires live { Live records.now work.old k }
+    requires room { 16 * (steps + length (pair_sweep seven (held records.now work.old k)).steps) ≤ length journal.old }
     ensures live { Live records.now work.new k }
     ensures did { Did (pair_sweep seven (held records.now work.old k)) (held records.now work.new k) steps result journal.old journal.new }
     ensures within { Within 0 (words_for k) work.old work.new }

@@ -1,4 +1,5 @@
-// Partners: each cnot, cz, ccx and ccz is linked to the equal ones before and after it. Three keys tell equal pairs.
+// Partners: each cnot, cz, ccx and ccz is linked to the equal ones before and after it. Three keys tell equal pairs. The lent
+// slices go apart: document 01, "separate lent slices".
 #![tactic(auto)]
 
 ghost use Rattle.std.specs.Prelude.{◌≡◌, cond, ◌+◌, ◌*◌, ◌≤◌, ◌<◌, length};
@@ -10,14 +11,15 @@ ghost use Rattle.slots.specs.Live.{Loaded, Partners};
 ghost use Rattle.slots.specs.Keeping.{KeepsLoaded};
 ghost use Rattle.partners.specs.Pairs.{raised, keys_from, put_in, room_for, ListedTo};
 
+use gates::Wire;
 use gates::records::Record;
-use gates::{Position, Wire, records};
 use leaves::equal;
+use leaves::equal::Two;
 use order::Room;
-use slots::Extent;
+use slots::{Extent, Slot};
 
 // Two gates of these kinds are equal exactly where their keys are.
-#[derive(Clone, Copy)]
+#[derive(Clone, Copy, PartialEq, Eq)]
 pub struct Keys {
     pub first: u32,
     pub middle: u32,
@@ -40,9 +42,10 @@ fn keys_of(r: Record, wires: u32) -> Keys
     let kind = r.kind;
     let a = Wire(r.first);
     let b = Wire(r.second);
-    let two = equal::canonical_pair(a, b);
-    let low = two.first;
-    let high = two.second;
+    let Two {
+        first: low,
+        second: high,
+    } = equal::canonical_pair(a, b);
     if kind < 10 {
         let plain = kind == 8;
         let raise = (kind % 2) as u32 * wires;
@@ -60,13 +63,10 @@ fn keys_of(r: Record, wires: u32) -> Keys
         };
     }
     let three = equal::canonical_triple(a, b, Wire(r.third));
-    let least = three.first;
-    let middle = three.second;
-    let most = three.third;
     Keys {
-        first: least.0,
-        middle: middle.0,
-        last: most.0 + wires,
+        first: three.first.0,
+        middle: three.second.0,
+        last: three.third.0 + wires,
     }
 }
 
@@ -95,10 +95,9 @@ fn list_slot(
     ensures listed { ListedTo records.now work.new k (slot + 1) result }
     ensures kept { KeepsLoaded k work.old work.new }
 {
-    let r = records::record_at(records, Position(slot as u32));
-    let kind = r.kind;
-    let live = ranks::is_marked(work, 2 * (3 * k.gates + k.wires), k.gates, slot);
-    if live & (8 <= kind) & (kind <= 11) {
+    let r = Slot(slot).record(records);
+    let live = ranks::is_marked(work, k.ranks_at(), k.gates, slot);
+    if live & (8 <= r.kind) & (r.kind <= 11) {
         put_keys(work, slot, keys_of(r, k.wires as u32), list + count);
         count + 1
     } else {
@@ -130,8 +129,7 @@ pub fn pair_up(records: &[u8], work: &mut [u32], k: Extent)
     if g == 0 {
         return;
     }
-    let base = 2 * (3 * g + k.wires)
-        + ((g / 32 + 1) + (g / 32 + 1) + (g / 1024 + 1) + (g / 32768 + 1));
+    let base = k.pairs_at();
     let count = list_pairs(records, work, k, base + 2 * (g + 1));
     order::pair_up(
         work,

@@ -13,6 +13,7 @@ use gates::{Gate, Wire};
 use leaves::pairs::CommutingPair;
 
 // Whether a gate touches a wire.
+#[tactic(auto, unfolding(gates::specs::Gates::has, gates::specs::Gates::wires_of))]
 pub fn touches(g: Gate, on: Wire) -> bool
     ensures { result ≡ touches on.0 g }
 {
@@ -26,13 +27,13 @@ pub fn touches(g: Gate, on: Wire) -> bool
         | Gate::Tdg(a)
         | Gate::Reset(a)
         | Gate::Y(a)
-        | Gate::Sx(a) => on.0 == a.0,
-        Gate::Measure { qubit, .. } => on.0 == qubit.0,
-        Gate::Swap(a, b) => (on.0 == a.0) | (on.0 == b.0),
+        | Gate::Sx(a) => on == a,
+        Gate::Measure { qubit, .. } => on == qubit,
+        Gate::Swap(a, b) => (on == a) | (on == b),
         Gate::Cnot { control, target }
         | Gate::Cz { control, target }
         | Gate::Cy { control, target }
-        | Gate::Ch { control, target } => (on.0 == control.0) | (on.0 == target.0),
+        | Gate::Ch { control, target } => (on == control) | (on == target),
         Gate::Ccx {
             control1,
             control2,
@@ -42,72 +43,68 @@ pub fn touches(g: Gate, on: Wire) -> bool
             control1,
             control2,
             target,
-        } => (on.0 == control1.0) | (on.0 == control2.0) | (on.0 == target.0),
+        } => (on == control1) | (on == control2) | (on == target),
         Gate::Cswap {
             control,
             first,
             second,
-        } => (on.0 == control.0) | (on.0 == first.0) | (on.0 == second.0),
+        } => (on == control) | (on == first) | (on == second),
     }
 }
 
 // Whether a gate may pass cnot(c, t).
+#[tactic(auto, unfolding(gates::specs::Gates::has, gates::specs::Gates::meet, gates::specs::Gates::wires_of, rules::specs::MayPass::class_of, rules::specs::MayPass::past))]
 pub fn commutes_past_cnot(g: Gate, c: Wire, t: Wire) -> bool
     ensures { result ≡ may_pass (Gates.Cnot c t) g }
 {
     match g {
-        Gate::X(w) => w.0 != c.0,
-        Gate::S(w) | Gate::Sdg(w) | Gate::Z(w) | Gate::T(w) | Gate::Tdg(w) => w.0 != t.0,
-        Gate::Cnot { control, target } => (control.0 != t.0) & (target.0 != c.0),
-        Gate::Cz { control, target } => (control.0 != t.0) & (target.0 != t.0),
+        Gate::X(w) => w != c,
+        Gate::S(w) | Gate::Sdg(w) | Gate::Z(w) | Gate::T(w) | Gate::Tdg(w) => w != t,
+        Gate::Cnot { control, target } => (control != t) & (target != c),
+        Gate::Cz { control, target } => (control != t) & (target != t),
         Gate::Ccz {
             control1,
             control2,
             target,
-        } => (control1.0 != t.0) & (control2.0 != t.0) & (target.0 != t.0),
+        } => (control1 != t) & (control2 != t) & (target != t),
         _ => !(touches(g, c) | touches(g, t)),
     }
 }
 
-// Whether a gate may pass cz(a, b).
+// Whether a gate may pass cz(a, b): it is passed by what passes a ccz on its two wires, one of them twice.
+#[tactic(auto, using(crate::proofs::PassingLaws::cz_as_ccz))]
 pub fn commutes_past_cz(g: Gate, a: Wire, b: Wire) -> bool
     ensures { result ≡ may_pass (Gates.Cz a b) g }
 {
-    match g {
-        Gate::S(_) | Gate::Sdg(_) | Gate::Z(_) | Gate::T(_) | Gate::Tdg(_) => true,
-        Gate::Cz { .. } | Gate::Ccz { .. } => true,
-        Gate::Cnot { target, .. } | Gate::Ccx { target, .. } => (target.0 != a.0)
-            & (target.0 != b.0),
-        _ => !(touches(g, a) | touches(g, b)),
-    }
+    commutes_past_ccz(g, a, b, b)
 }
 
 // Whether a gate may pass ccx(a, b, t).
+#[tactic(auto, unfolding(gates::specs::Gates::has, gates::specs::Gates::meet, gates::specs::Gates::wires_of, rules::specs::MayPass::class_of, rules::specs::MayPass::past))]
 pub fn commutes_past_ccx(g: Gate, a: Wire, b: Wire, t: Wire) -> bool
     ensures { result ≡ may_pass (Gates.Ccx a b t) g }
 {
     match g {
-        Gate::X(w) => (w.0 == t.0) | ((w.0 != a.0) & (w.0 != b.0)),
-        Gate::S(w) | Gate::Sdg(w) | Gate::Z(w) | Gate::T(w) | Gate::Tdg(w) => w.0 != t.0,
-        Gate::Cnot { control, target } => (target.0 != a.0)
-            & (target.0 != b.0)
-            & (control.0 != t.0),
-        Gate::Cz { control, target } => (control.0 != t.0) & (target.0 != t.0),
+        Gate::X(w) => (w == t) | ((w != a) & (w != b)),
+        Gate::S(w) | Gate::Sdg(w) | Gate::Z(w) | Gate::T(w) | Gate::Tdg(w) => w != t,
+        Gate::Cnot { control, target } => (target != a) & (target != b) & (control != t),
+        Gate::Cz { control, target } => (control != t) & (target != t),
         Gate::Ccx {
             control1,
             control2,
             target,
-        } => (target.0 != a.0) & (target.0 != b.0) & (control1.0 != t.0) & (control2.0 != t.0),
+        } => (target != a) & (target != b) & (control1 != t) & (control2 != t),
         Gate::Ccz {
             control1,
             control2,
             target,
-        } => (control1.0 != t.0) & (control2.0 != t.0) & (target.0 != t.0),
+        } => (control1 != t) & (control2 != t) & (target != t),
         _ => !(touches(g, a) | touches(g, b) | touches(g, t)),
     }
 }
 
 // Whether a gate may pass ccz(a, b, c).
+#[tactic(auto, unfolding(gates::specs::Gates::has, gates::specs::Gates::meet, gates::specs::Gates::wires_of, rules::specs::MayPass::class_of, rules::specs::MayPass::past))]
 pub fn commutes_past_ccz(g: Gate, a: Wire, b: Wire, c: Wire) -> bool
     ensures { result ≡ may_pass (Gates.Ccz a b c) g }
 {
@@ -115,13 +112,14 @@ pub fn commutes_past_ccz(g: Gate, a: Wire, b: Wire, c: Wire) -> bool
         Gate::S(_) | Gate::Sdg(_) | Gate::Z(_) | Gate::T(_) | Gate::Tdg(_) => true,
         Gate::Cz { .. } | Gate::Ccz { .. } => true,
         Gate::Cnot { target, .. } | Gate::Ccx { target, .. } => {
-            (target.0 != a.0) & (target.0 != b.0) & (target.0 != c.0)
+            (target != a) & (target != b) & (target != c)
         }
         _ => !(touches(g, a) | touches(g, b) | touches(g, c)),
     }
 }
 
 // Whether a gate may pass a pair.
+#[tactic(auto, unfolding(leaves::specs::Answers::as_gate))]
 pub fn commutes_with(pair: CommutingPair, g: Gate) -> bool
     ensures { result ≡ may_pass (as_gate pair) g }
 {

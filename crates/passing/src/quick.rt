@@ -6,7 +6,7 @@ use gates::records::Record;
 use leaves::pairs::CommutingPair;
 
 // A pair's wires as a gate that meets it sees them: its target, which no wire is where it has none, and the wires that it
-// only reads.
+// only reads. The target is no Option: `passes_by` would answer otherwise of the largest word.
 #[derive(Clone, Copy)]
 pub struct Past {
     pub cnot: bool,
@@ -16,6 +16,7 @@ pub struct Past {
     pub third: u32,
 }
 
+#[tactic(auto, unfolding(crate::specs::Quick::past_of))]
 pub fn past_of(pair: CommutingPair) -> Past
     ensures { result ≡ past_of pair }
 {
@@ -59,6 +60,7 @@ fn off(p: Past, w: u32) -> bool
 }
 
 // Whether the gate of a record may pass.
+#[tactic(auto, unfolding(crate::specs::Quick::passes_by))]
 pub fn may_pass(p: Past, r: Record) -> bool
     ensures { result ≡ passes_by p r }
 {

@@ -1,4 +1,5 @@
 -- Equal gates do the same; so equal cancelling gates undo one another.
+use Rattle.std.specs.Prelude.{Result, Ok, Err}
 use mathlib.Core.Path.{◌≡◌, refl, sym, ◌∙◌, ap₂, subst}
 use mathlib.Core.Bool.{Bool, false≢true, true, false, cond}
 use mathlib.Core.List.{List, [], ◌∷◌, ◌++◌}
@@ -8,7 +9,7 @@ use lib.ListN.{get_or}
 use Rattle.gates.specs.declared.Wire.{Wire}
 use Rattle.gates.specs.declared.Gate.{Gate}
 use Rattle.gates.specs.declared.Gate.TheVariants.{X, H, S, Sdg, Z, T, Tdg, Cnot, Cz, Ccx, Ccz, Measure, Reset, Y, Sx, Swap, Cy, Ch, Cswap}
-use Rattle.gates.specs.declared.records.Decoded.{Decoded}
+use Rattle.gates.specs.declared.records.NoGate.{NoGate}
 use Rattle.gates.specs.Kinds.{shapes, shape_of}
 use Rattle.gates.specs.Gates.{wire, wires_of, has}
 use Rattle.gates.specs.Records.{record_of, kind_of, named_by}
@@ -27,11 +28,11 @@ use Rattle.meaning.proofs.Undo.{self_inverse, undo}
 
 -- ------------------------------------------------------------ the gate of a kind on some wires
 
-abbrev gate_in : Decoded → Gate
-gate_in (Decoded.Gate g) = g
-gate_in Decoded.Angle = X (wire 0)
-gate_in Decoded.Unknown = X (wire 0)
-gate_in Decoded.NotZero = X (wire 0)
+abbrev gate_in : Result Gate NoGate → Gate
+gate_in (Ok g) = g
+gate_in (Err NoGate.Angle) = X (wire 0)
+gate_in (Err NoGate.Unknown) = X (wire 0)
+gate_in (Err NoGate.NotZero) = X (wire 0)
 
 form : ℕ → List ℕ → Gate
 form k l = gate_in (named_by k (get_or l 0 0) (get_or l 1 0) (get_or l 2 0))

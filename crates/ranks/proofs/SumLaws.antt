@@ -1,9 +1,17 @@
--- Laws of sums: of numbers that agree, of more of them, of numbers that differ at one index, and of the sums of 32.
+-- Laws of sums: of numbers that agree, of more of them, of a slice of words, of numbers that differ at one index, and of the
+-- sums of 32.
 use mathlib.Core.Path.{◌≡◌, refl, ap}
-use Prim.Native.Nat.{ℕ, zero, suc, ◌+◌, ◌*◌, ◌≤◌, ◌<◌}
+use mathlib.Core.List.{List}
+use Prim.Native.Nat.{ℕ, zero, suc, ◌+◌, ◌-◌, ◌*◌, ◌≤◌, ◌<◌}
 use native.Mathlib.Decide.{dec_lt}
+use native.Mathlib.Nat.{add_assoc}
 use native.Mathlib.Numerals.{add-one}
 use native.Mathlib.Omega.{arith}
+use lib.ListN.{length, take, drop, length-drop}
+use Rattle.std.specs.List.{sum}
+use Rattle.std.proofs.lemmas.List.{get_or-drop}
+use Rattle.std.proofs.lemmas.List.Sums.{sum_by_more}
+use Rattle.links.specs.Words.{word}
 use Rattle.ranks.specs.Ranks.{below, SumsOf}
 
 -- ------------------------------------------------------------ one list of numbers
@@ -51,6 +59,26 @@ below-marks f size small past (suc i) =
       | yes h ↦ omega (arith, below_each f small i, small i)
       | no h ↦ omega (arith, past i (omega (arith, h)), below-marks f size small past i)
     ]
+
+-- ------------------------------------------------------------ a slice of words
+
+-- So many words after the first.
+sum-next : (words : List ℕ) (at from n : ℕ) → at + from + n ≤ length words →
+    sum (take n (drop (at + from) words)) + below (word words at) from ≡ below (word words at) (from + n)
+sum-next words at from zero l = grind arith
+sum-next words at from (suc n) l =
+    let more = simp add-one at (sum_by_more (λ x. x) (drop (at + from) words) n 0 (simp length-drop (omega arith))) in
+    let here = simp add_assoc at (get_or-drop (at + from) words n 0) in
+    let next = simp (add_assoc, add-one) at (below_next (word words at) (from + n)) in
+    omega (arith, sum-next words at from n (omega arith))
+
+-- The words of a slice.
+pub sum-slice : (words : List ℕ) (at from to : ℕ) → from ≤ to → at + to ≤ length words →
+    sum (take (at + to - (at + from)) (drop (at + from) words)) + below (word words at) from ≡ below (word words at) to
+sum-slice words at from to m l =
+    let e : at + to - (at + from) ≡ to - from = omega arith in
+    let f : from + (to - from) ≡ to = omega arith in
+    rw e (rw f at (sum-next words at from (to - from) (omega arith)))
 
 -- ------------------------------------------------------------ two lists of numbers
 

@@ -1,12 +1,14 @@
 // Ranks: the position of a slot among the marked ones, and the slot at a position. A mark is a bit, 32 to a word; sums of marks
-// in blocks of 32, 1,024 and 32,768 slots keep each question to a few dozen words, all of them in a near cache.
+// in blocks of 32, 1,024 and 32,768 slots keep each question to a few dozen words, all of them in a near cache. The slice is lent
+// apart from where its words start and how many slots they are for: document 01, "separate lent slices".
 #![tactic(auto)]
 
 ghost use Rattle.std.specs.Prelude.{◌≡◌, cond, ◌+◌, ◌*◌, ◌-◌, ◌/◌, ◌≤◌, ◌<◌, ◌^◌, eqb, ltb, length};
 ghost use Rattle.links.specs.Words.{word};
 ghost use Rattle.ranks.specs.Ranks.{bit, below, size_for, marks, Ranks, Marked, Blank};
 
-// Where a search stopped, and what is left of the sum that it looked for.
+// Where a search stopped, and what is left of the sum that it looked for. The end is an answer too, the last block, so it is no
+// Option.
 #[derive(Clone, Copy)]
 pub struct Spot {
     pub at: usize,
@@ -36,7 +38,7 @@ fn ones(word: u32, count: usize) -> u32
     requires { count < 32 }
     ensures { result ≡ below (bit word) count }
 {
-    u32::count_ones(word % (1 << count))
+    (word % (1 << count)).count_ones()
 }
 
 // The first of so many bits that is more than what is left of a sum; where there is none, their number.
@@ -48,17 +50,15 @@ fn pick(word: u32, count: usize, sum: u32) -> Spot
 {
     let mut left = sum;
     let mut rest = word;
-    let mut i = 0;
-    while i < count {
+    for i in 0..count {
         let bit = rest % 2;
         if left < bit {
-            break;
+            return Spot { at: i, left };
         }
         left -= bit;
         rest /= 2;
-        i += 1;
     }
-    Spot { at: i, left }
+    Spot { at: count, left }
 }
 
 // ------------------------------------------------------------ the words of a level
@@ -68,13 +68,7 @@ fn sum(words: &[u32], at: usize, from: usize, to: usize) -> u32
     requires { (from ≤ to) × (at + to ≤ length words.now) × (below (word words.now at) to < 2 ^ 32) }
     ensures { result + below (word words.now at) from ≡ below (word words.now at) to }
 {
-    let mut r: u32 = 0;
-    let mut i = from;
-    while i < to {
-        r += words[at + i];
-        i += 1;
-    }
-    r
+    words[at + from..at + to].iter().sum()
 }
 
 // The first index, from one up to another, whose word is more than what is left of a sum; the other where there is none.
@@ -85,19 +79,25 @@ fn search(words: &[u32], at: usize, from: usize, to: usize, sum: u32) -> Spot
     ensures found { result.at < to → result.left < word words.now at result.at }
 {
     let mut left = sum;
-    let mut i = from;
-    while i < to {
+    for i in from..to {
         let here = words[at + i];
         if left < here {
-            break;
+            return Spot { at: i, left };
         }
         left -= here;
-        i += 1;
     }
-    Spot { at: i, left }
+    Spot { at: to, left }
 }
 
 // ------------------------------------------------------------ marks and ranks
+
+// How many words the marks of so many slots and their sums take.
+pub fn size_for(slots: usize) -> usize
+    requires { slots ≤ 1048576 }
+    ensures { result ≡ size_for slots }
+{
+    (slots / 32 + 1) + (slots / 32 + 1) + (slots / 1024 + 1) + (slots / 32768 + 1)
+}
 
 // How many slots a block of 32 has: the last has fewer.
 fn slots_in(slots: usize, block: usize) -> usize
@@ -163,7 +163,7 @@ pub fn put_in(words: &mut [u32], at: usize, slots: usize, slot: usize)
     words[by32768 + slot / 32768] += 1;
 }
 
-// Takes the mark from a marked slot.
+// Takes the mark from a marked slot: `put_in` turned round. One function of a sign would ask for it at each of the four sums.
 pub fn take_out(words: &mut [u32], at: usize, slots: usize, slot: usize)
     requires ranks { Ranks words.old at slots }
     requires slot_lt_slots { (slot < slots) × (marks words.old at slots slot ≡ 1) }
@@ -183,6 +183,5 @@ pub fn start(words: &mut [u32], at: usize, slots: usize)
     requires { (at + size_for slots ≤ length words.old) × (slots ≤ 1048576) }
     ensures { Blank at slots words.old words.new }
 {
-    let size = (slots / 32 + 1) + (slots / 32 + 1) + (slots / 1024 + 1) + (slots / 32768 + 1);
-    links::clear(words, at, size);
+    links::clear(words, at, size_for(slots));
 }

@@ -1,4 +1,5 @@
 -- Gates that stand between the two h of a step: an x, or those of a run.
+use Rattle.std.specs.Prelude.{Ok}
 use mathlib.Core.Path.{◌≡◌, refl, sym, ◌∙◌, ap, ap₂}
 use mathlib.Core.Bool.{Bool, true, false, not, cond, ◌||◌, ◌&&◌}
 use mathlib.Core.List.{List, [], ◌∷◌}
@@ -9,7 +10,6 @@ use borrow.Author.Tests.{eqb-true}
 use Rattle.gates.specs.declared.Wire.{Wire}
 use Rattle.gates.specs.declared.Gate.{Gate}
 use Rattle.gates.specs.declared.Gate.TheVariants.{X, H, S, Sdg, Z, T, Tdg, Cnot, Cz, Ccx, Ccz, Measure, Reset, Y, Sx, Swap, Cy, Ch, Cswap}
-use Rattle.gates.specs.declared.records.Decoded.{Decoded}
 use Rattle.gates.specs.Kinds.{on1, shapes, shape_of}
 use Rattle.gates.specs.Gates.{wire, wires_of, has, touches}
 use Rattle.gates.specs.Records.{record_of, kind_of, is_h, decoded_as, named_by}
@@ -28,7 +28,7 @@ pub of-one-wire : (k : ℕ) (f : Wire → Gate) → shape_of k ≡ on1 f → ((w
 unfolding named_by
 of-one-wire k f s ws g h =
     let r = record_of g in
-    let e : Decoded.Gate (f (wire r.first)) ≡ Decoded.Gate g =
+    let e : Ok (f (wire r.first)) ≡ Ok g =
     ap (λ z. decoded_as z r.first r.second r.third) (sym s)
     ∙ ap (λ n. decoded_as (shape_of n) r.first r.second r.third) (sym (eqb-true (kind_of g) k h))
     ∙ named-by-record g in

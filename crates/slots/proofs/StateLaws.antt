@@ -1,4 +1,5 @@
 -- What a loaded list tells of its slots, and what it needs of the words.
+use Rattle.std.specs.Prelude.{Ok}
 use mathlib.Core.Path.{◌≡◌, refl, sym, ap, subst, ◌∙◌}
 use mathlib.Core.Bool.{Bool, true, false, ◌&&◌, ◌||◌}
 use mathlib.Core.List.{List, [], ◌∷◌}
@@ -8,7 +9,6 @@ use lib.Dec.{eqb, ltb}
 use lib.ListN.{length, get_or}
 use borrow.Author.Tests.{eqb-true, eq-eqb, ltb-true, ltb-false}
 use Rattle.gates.specs.declared.Gate.{Gate}
-use Rattle.gates.specs.declared.records.Decoded.{Decoded}
 use Rattle.gates.specs.Gates.{has, touches, twice, wires_of, All}
 use Rattle.gates.specs.Records.{record_at, gate_of, record_of, operand_words}
 use Rattle.gates.proofs.Joined.{and_right}
@@ -33,6 +33,10 @@ use Rattle.slots.proofs.RunLaws.{Run, hung-within}
 pub live-is : (words : List ℕ) (k : Extent) (i : ℕ) → is_live words k i ≡ eqb (marks words (ranks_at k) k.gates i) 1
 unfolding is_live
 live-is words k i = refl
+
+-- The mark that is asked at the place of the ranks.
+pub live-at : (words : List ℕ) (k : Extent) (slot at : ℕ) → at ≡ ranks_at k → eqb (marks words at k.gates slot) 1 ≡ is_live words k slot
+live-at words k slot at e = ap (λ (a : ℕ). eqb (marks words a k.gates slot) 1) e ∙ sym (live-is words k slot)
 
 pub live-mark : (words : List ℕ) (k : Extent) (i : ℕ) → is_live words k i ≡ true → marks words (ranks_at k) k.gates i ≡ 1
 live-mark words k i t = eqb-true (marks words (ranks_at k) k.gates i) 1 (sym (live-is words k i) ∙ t)
@@ -69,8 +73,8 @@ unfolding gate_at
 gate-is bytes i = refl
 
 module _ (n : ℕ) (bytes : List ℕ) (i : ℕ) (sound : Sound n (record_at bytes i)) where
-  pub reads-gate : gate_of (record_at bytes i) ≡ Decoded.Gate (gate_at bytes i)
-  reads-gate = sound.reads ∙ ap Decoded.Gate (sym (gate-is bytes i))
+  pub reads-gate : gate_of (record_at bytes i) ≡ Ok (gate_at bytes i)
+  reads-gate = sound.reads ∙ ap Ok (sym (gate-is bytes i))
 
   pub known : (record_at bytes i).kind < 27
   known = known-kind (record_at bytes i) (gate_at bytes i) reads-gate

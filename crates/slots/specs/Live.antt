@@ -13,6 +13,10 @@ use Rattle.slots.specs.Slots.{gate_at, Sound, cells_from, cells_below}
 
 -- ------------------------------------------------------------ where things stand
 
+-- As many gates and wires as document 01 allows a call.
+abbrev pub InLimits : Extent → Type 0
+InLimits k = (k.gates ≤ 1048576) × (k.wires ≤ 65536)
+
 -- "16g + 4n 32-bit words"
 abbrev pub words_for : Extent → ℕ
 words_for k = 16 * k.gates + 4 * k.wires

@@ -1,29 +1,26 @@
 -- Slots: the records that a list works on, and the gate in each.
-use Rattle.std.specs.Prelude.{◌≡◌, Bool, true, false, cond, List, [], ◌∷◌, ℕ, zero, suc, ◌<◌, eqb, ltb}
+use Rattle.std.specs.Prelude.{Option as Answer, Some, None, Result, Ok, Err, ◌≡◌, Bool, true, false, cond, List, [], ◌∷◌, ℕ, zero, suc, ◌<◌, eqb, ltb}
 use Rattle.std.proofs.Math.Option.{Option, some, none}
 use Rattle.gates.specs.declared.Gate.{Gate}
 use Rattle.gates.specs.declared.Gate.TheVariants.{X}
 use Rattle.gates.specs.declared.records.Record.{Record}
-use Rattle.gates.specs.declared.records.Decoded.{Decoded}
+use Rattle.gates.specs.declared.records.NoGate.{NoGate}
 use Rattle.gates.specs.Gates.{wire, wires_of, touches, twice}
 use Rattle.gates.specs.Records.{record_at, gate_of}
 use Rattle.rules.specs.Steps.{Cell, Cut}
 use Rattle.slots.specs.declared.Slot.{Slot}
-use Rattle.slots.specs.declared.Found.{Found}
 
 -- The gate of a record; of bytes that are none, which no slot in use has, some gate.
-abbrev pub gate_in : Decoded → Gate
-gate_in (Decoded.Gate g) = g
-gate_in Decoded.Angle = X (wire 0)
-gate_in Decoded.Unknown = X (wire 0)
-gate_in Decoded.NotZero = X (wire 0)
+abbrev pub gate_in : Result Gate NoGate → Gate
+gate_in (Ok g) = g
+gate_in (Err why) = X (wire 0)
 
 unfoldable pub gate_at : List ℕ → ℕ → Gate
 gate_at bytes slot = gate_in (gate_of (record_at bytes slot))
 
 -- A record of a gate whose wires are below n, none twice.
 pub record Sound (n : ℕ) (r : Record) : Type 0 where
-  pub reads : gate_of r ≡ Decoded.Gate (gate_in (gate_of r))
+  pub reads : gate_of r ≡ Ok (gate_in (gate_of r))
   pub below : (w : ℕ) → touches w (gate_in (gate_of r)) ≡ true → w < n
   pub distinct : twice (wires_of (gate_in (gate_of r))) ≡ false
 
@@ -67,12 +64,12 @@ rewritten slot g (e ∷ l) =
 abbrev pub slot_as : ℕ → Slot
 slot_as i = record { 0 = i }
 
-abbrev pub found : Option ℕ → Found
-found none = Found.Nothing
-found (some i) = Found.At (slot_as i)
+abbrev pub found : Option ℕ → Answer Slot
+found none = None
+found (some i) = Some (slot_as i)
 
 -- The later of two.
-abbrev pub later_of : Found → Found → Found
-later_of Found.Nothing b = b
-later_of (Found.At i) Found.Nothing = Found.At i
-later_of (Found.At i) (Found.At j) = cond (ltb i.0 j.0) (Found.At j) (Found.At i)
+abbrev pub later_of : Answer Slot → Answer Slot → Answer Slot
+later_of None b = b
+later_of (Some i) None = Some i
+later_of (Some i) (Some j) = cond (ltb i.0 j.0) (Some j) (Some i)

@@ -2,11 +2,11 @@
 ghost use Rattle.std.specs.Prelude.{◌≡◌, cond, [], ◌∷◌, ◌+◌, ◌*◌, ◌-◌, ◌≤◌, ◌<◌, eqb, length, get_or};
 ghost use Rattle.links.specs.Words.{word, Within};
 ghost use Rattle.slots.specs.Slots.{found};
-ghost use Rattle.slots.specs.Live.{nodes_for};
+ghost use Rattle.slots.specs.Live.{InLimits, nodes_for};
 ghost use Rattle.slots.specs.Nodes.{Closed, hung, taken_off, InRoom, passed_by, CanPassAll, slot_in};
 ghost use Rattle.gates.specs.Records.{operand_words};
 
-use crate::{Extent, Found, Slot};
+use crate::{Extent, Slot};
 use gates::kinds;
 use gates::records::Record;
 
@@ -15,8 +15,7 @@ pub fn operand_count(r: Record) -> usize
     requires { r.kind < 27 }
     ensures { (result ≡ length (operand_words r)) × (result ≤ 3) }
 {
-    let row = kinds::row_of(r.kind);
-    row.operands as usize
+    kinds::row_of(r.kind).operands as usize
 }
 
 // A word of a record.
@@ -24,18 +23,13 @@ pub fn operand(r: Record, op: usize) -> u32
     requires { op < 3 }
     ensures { result ≡ get_or (r.first ∷ r.second ∷ r.third ∷ []) op 0 }
 {
-    if op == 0 {
-        r.first
-    } else if op == 1 {
-        r.second
-    } else {
-        r.third
-    }
+    [r.first, r.second, r.third][op]
 }
 
 // Makes each wire empty on one side: its end leads to itself.
 pub fn close_ends(work: &mut [u32], side: usize, k: Extent)
-    requires { (side + nodes_for k ≤ length work.old) × (k.gates ≤ 1048576) × (k.wires ≤ 65536) }
+    requires limits { InLimits k }
+    requires room { side + nodes_for k ≤ length work.old }
     ensures { Closed side k work.old work.new }
 {
     let ends = 3 * k.gates;
@@ -95,14 +89,10 @@ pub fn pass_by(work: &mut [u32], prev: usize, node: usize, count: usize)
 }
 
 // The slot to which a node is linked on one side.
-pub fn beside(work: &[u32], side: usize, k: Extent, node: usize) -> Found
+pub fn beside(work: &[u32], side: usize, k: Extent, node: usize) -> Option<Slot>
     requires { (side + node < length work.now) × (k.gates ≤ 1048576) }
     ensures { result ≡ found (slot_in (3 * k.gates) (word work.now side node)) }
 {
     let other = work[side + node] as usize;
-    if other < 3 * k.gates {
-        Found::At(Slot(other / 3))
-    } else {
-        Found::Nothing
-    }
+    (other < 3 * k.gates).then_some(Slot(other / 3))
 }

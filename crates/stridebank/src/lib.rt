@@ -7,8 +7,9 @@ ghost use Rattle.stridebank.specs.Boundary.{as_numbers};
 
 use cancel::entry;
 use cancel::entry::Cancelled;
+use intake::faults::Refusal;
 
-// Document 01's number, place, m, s and walked.
+// Document 01's number, place, m, s and walked: numbers, since C has no Result.
 #[repr(C)]
 #[derive(Clone, Copy)]
 pub struct StridebankCancelled {
@@ -17,6 +18,30 @@ pub struct StridebankCancelled {
     pub left: u64,
     pub steps: u64,
     pub walked: u64,
+}
+
+impl From<Result<Cancelled, Refusal>> for StridebankCancelled {
+    ghost from_gives = { λ r numbers. as_numbers numbers ≡ numbers_of r };
+
+    // "Success and acceptance are number 0, place 0 … a refusal gives 0 for m, s and walked."
+    fn from(r: Result<Cancelled, Refusal>) -> StridebankCancelled {
+        match r {
+            Ok(done) => StridebankCancelled {
+                number: 0,
+                place: 0,
+                left: done.left as u64,
+                steps: done.steps as u64,
+                walked: done.walked,
+            },
+            Err(why) => StridebankCancelled {
+                number: why.fault.number() as u64,
+                place: why.place.0 as u64,
+                left: 0,
+                steps: 0,
+                walked: 0,
+            },
+        }
+    }
 }
 
 // The pass.
@@ -34,25 +59,5 @@ pub extern "C" fn stridebank_cancel(
     ensures work { work.new ≡ work_after (tests_of wires bits list.now (length out.old) (length work.old) (length journal.old)) wires list.now work.old }
     ensures journal { journal.new ≡ journal_after (tests_of wires bits list.now (length out.old) (length work.old) (length journal.old)) wires list.now journal.old }
 {
-    let cancelled = entry::cancel(wires, bits, list, out, work, journal);
-    match cancelled {
-        Cancelled::Done {
-            left,
-            steps,
-            walked,
-        } => StridebankCancelled {
-            number: 0,
-            place: 0,
-            left: left as u64,
-            steps: steps as u64,
-            walked,
-        },
-        Cancelled::Refused { number, place } => StridebankCancelled {
-            number: number as u64,
-            place: place.0 as u64,
-            left: 0,
-            steps: 0,
-            walked: 0,
-        },
-    }
+    StridebankCancelled::from(entry::cancel(wires, bits, list, out, work, journal))
 }

@@ -1,8 +1,7 @@
 -- A turn goes onward in the sample.
-use Rattle.std.specs.Prelude.{ℕ, ◌≤◌, ◌<◌}
-use Rattle.vectors.specs.declared.replay.Turn.{Turn}
+use Rattle.std.specs.Prelude.{Result, Ok, Err, ℕ, ◌≤◌, ◌<◌}
+use Rattle.vectors.specs.declared.replay.Unlike.{Unlike}
 
-abbrev pub Onward : ℕ → ℕ → Turn → Type 0
-Onward at n (Turn.Same next) = (at < next) × (next ≤ n)
-Onward at n Turn.Other = Unit {0}
-Onward at n Turn.Broken = Unit {0}
+abbrev pub Onward : ℕ → ℕ → Result ℕ Unlike → Type 0
+Onward at n (Ok next) = (at < next) × (next ≤ n)
+Onward at n (Err why) = Unit {0}

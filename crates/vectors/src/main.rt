@@ -10,7 +10,8 @@ ghost use Rattle.std.specs.Prelude.{◌≤◌, IfOk, length};
 use std::io;
 use std::io::Read;
 
-// Reads until the buffer is full or the input ends, and returns how many bytes it put at the start.
+// Reads until the buffer is full or the input ends, and returns how many bytes it put at the start. `Read` itself goes to the end
+// of the input only into a Vec, and there is no heap here.
 fn read_full(input: &mut impl Read, buffer: &mut [u8]) -> io::Result<usize>
     ensures { IfOk result (λ n. n ≤ length buffer.new) }
 {
@@ -31,11 +32,8 @@ fn main(rt: HostRuntime) -> io::Result<()> {
     let mut out = [0u8; 1024];
     let mut work = [0u32; 1088];
     let mut journal = [0u8; 1536];
-    let replayed = replay::replay_all(&sample[..n], &mut out, &mut work, &mut journal);
-    let lists = replayed.lists;
-    if replayed.same {
-        println!(rt; "lists as the Rust has them: {lists}")
-    } else {
-        println!(rt; "differs, or the sample is broken: list {lists}")
+    match replay::replay_all(&sample[..n], &mut out, &mut work, &mut journal) {
+        Ok(lists) => println!(rt; "lists as the Rust has them: {lists}"),
+        Err(stopped) => println!(rt; "differs, or the sample is broken: list {}", stopped.list),
     }
 }

@@ -1,4 +1,5 @@
-// The live list for Rust: each function is one of `asking` or `live` under a C name, for bench/ and its comparison.
+// The live list for Rust: each function is one of `asking` or `live` under a C name, for bench/ and its comparison, with an extent
+// and a list in the parts that C has.
 #![tactic(auto)]
 
 ghost use Rattle.std.specs.Prelude.{◌≡◌, true, ℕ, ◌*◌, ◌≤◌, ◌<◌, length, drop};
@@ -11,6 +12,7 @@ ghost use Rattle.slots.specs.Live.{words_for, is_live, held, earlier, Loaded, Li
 ghost use Rattle.live.specs.Filling.{whole_list};
 ghost use Rattle.live.specs.Finished.{records_left, words_left};
 
+use asking::loaded::LoadedList;
 use gates::Position;
 use live::{change, finish, load};
 use slots::{Extent, Slot};
@@ -60,9 +62,12 @@ pub extern "C" fn live_position(
     requires slot_in_list { slot < gates }
     ensures { result ≡ length (earlier records.now work.now (record { gates = gates; wires = wires }) slot) }
 {
-    let k = Extent { gates, wires };
-    let p = asking::position(records, work, k, Slot(slot));
-    p.0
+    let loaded = LoadedList {
+        records,
+        work,
+        extent: Extent { gates, wires },
+    };
+    loaded.position(Slot(slot)).0
 }
 
 // The slot at a position.
@@ -79,9 +84,12 @@ pub extern "C" fn live_slot_at(
     ensures at_position { slot_of (cut_at position (held records.now work.now (record { gates = gates; wires = wires }))) ≡ some result }
     ensures there { (is_live work.now (record { gates = gates; wires = wires }) result ≡ true) × (result < gates) }
 {
-    let k = Extent { gates, wires };
-    let s = asking::slot_at(records, work, k, Position(position));
-    s.0
+    let loaded = LoadedList {
+        records,
+        work,
+        extent: Extent { gates, wires },
+    };
+    loaded.slot_at(Position(position)).0
 }
 
 // Takes a gate out of the list.

@@ -1,19 +1,21 @@
-use Rattle.gates.specs.declared.records.Decoded.{Decoded}
-use Rattle.asking.proofs.AskLaws.{gate-read}
+use mathlib.Core.Path.{◌≡◌, refl, sym, ap, ◌∙◌}
+use Rattle.std.specs.Prelude.{Result, Ok, Err}
+use Rattle.std.specs.Result.{result_unwrap_or}
+use Rattle.gates.specs.declared.Gate.{Gate}
+use Rattle.gates.specs.declared.Gate.TheVariants.{X}
+use Rattle.gates.specs.declared.records.NoGate.{NoGate}
+use Rattle.gates.specs.Gates.{wire}
+use Rattle.gates.specs.Records.{gate_of}
+use Rattle.slots.specs.Slots.{gate_in}
+use Rattle.slots.proofs.StateLaws.{gate-is}
 use Rattle.asking.proofs.gate_at.Goals as goal
 
-pub returns-in-Gate : goal.returns-in-Gate
-returns-in-Gate c =
-    gate-read _ _ _ _ (Decoded.Gate _) c.record_at.ensures c.gate_of-decoded.ensures c.in-Gate.is
+-- The gate that the code takes, where there is none.
+or-some : (r : Result Gate NoGate) → result_unwrap_or r (X (wire 0)) ≡ gate_in r
+or-some (Ok g) = refl
+or-some (Err why) = refl
 
-pub returns-in-Angle : goal.returns-in-Angle
-returns-in-Angle c =
-    gate-read _ _ _ _ Decoded.Angle c.record_at.ensures c.gate_of-decoded.ensures c.in-Angle.is
-
-pub returns-in-Unknown : goal.returns-in-Unknown
-returns-in-Unknown c =
-    gate-read _ _ _ _ Decoded.Unknown c.record_at.ensures c.gate_of-decoded.ensures c.in-Unknown.is
-
-pub returns-in-NotZero : goal.returns-in-NotZero
-returns-in-NotZero c =
-    gate-read _ _ _ _ Decoded.NotZero c.record_at.ensures c.gate_of-decoded.ensures c.in-NotZero.is
+pub returns : goal.returns
+returns c =
+    c.unwrap_or.ensures ∙ or-some c.try_from.result ∙ ap gate_in (c.try_from.ensures ∙ ap gate_of c.record.ensures)
+    ∙ sym (gate-is c.args.records.now c.args.slot.0)

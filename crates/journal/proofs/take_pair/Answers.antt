@@ -10,21 +10,15 @@ use Rattle.journal.proofs.TakenLaws.{still-live, both_out}
 use Rattle.journal.proofs.take_pair.Goals as goal
 
 pub position-from-requires : goal.position-from-requires
-position-from-requires c = record {
-  loaded = c.requires.live_2.loaded;
-  slot_lt_gates = live_below _ _ _ c.requires.first_value.0;
-}
+position-from-requires c = live_below _ _ _ c.requires.both_live.0
 
 pub position-to-requires : goal.position-to-requires
-position-to-requires c = record {
-  loaded = c.requires.live_2.loaded;
-  slot_lt_gates = live_below _ _ _ c.requires.first_value.1;
-}
+position-to-requires c = live_below _ _ _ c.requires.both_live.1
 
 pub drop_slot-requires-2 : goal.drop_slot-requires-2
 drop_slot-requires-2 c = record {
-  live_2 = c.drop_slot.ensures.live;
-  slot_value = still-live _ _ _ _ _ _ _ c.drop_slot.ensures.dropped c.requires.first_value.1 (λ e. omega (arith, e, c.requires.first_value.2));
+  live = c.drop_slot.ensures.live;
+  slot_live = still-live _ _ _ _ _ _ _ c.drop_slot.ensures.dropped c.requires.both_live.1 (λ e. omega (arith, e, c.requires.both_live.2));
 }
 
 pub returns : goal.returns

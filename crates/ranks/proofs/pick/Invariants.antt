@@ -1,12 +1,8 @@
 use mathlib.Core.Path.{◌≡◌}
-use Prim.Native.Nat.{◌+◌, ◌-◌, ◌/◌, ◌^◌, ◌≤◌}
+use Prim.Native.Nat.{◌+◌, ◌/◌, ◌^◌}
 use Rattle.ranks.specs.Ranks.{bit, below}
 use Rattle.ranks.proofs.pick.Given as goal
 
 abbrev pub invariant-loop-i : goal.invariant-loop-i
 invariant-loop-i l =
-    (l.i ≤ l.count) × (l.rest ≡ l.word / 2 ^ l.i) × (l.left + below (bit l.word) l.i ≡ l.sum)
-
-abbrev pub decreases-loop-i : goal.decreases-loop-i
-decreases-loop-i l =
-    l.count - l.i
+    (l.rest ≡ l.word / 2 ^ l.i) × (l.left + below (bit l.word) l.i ≡ l.sum)

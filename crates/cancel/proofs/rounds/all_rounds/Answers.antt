@@ -1,21 +1,10 @@
-use mathlib.Core.Path.{◌≡◌, refl, sym, ap}
-use Prim.Native.Nat.{ℕ, zero, suc, ◌<◌}
-use native.Mathlib.Omega.{arith}
-use Rattle.links.proofs.WordLaws.{within_none}
+use mathlib.Core.Path.{◌≡◌}
 use Rattle.journal.proofs.SweepingLaws.{did_none}
 use Rattle.cancel.proofs.EmptyLaws.{rounds-nothing}
 use Rattle.cancel.proofs.rounds.all_rounds.Goals as goal
 
-some-gates : (g : ℕ) → (g ≡ 0 → ⊥) → 0 < g
-some-gates zero h = absurd (h refl)
-some-gates (suc g) h = omega arith
+pub returns-then-k-eq0-clause-did : goal.returns-then-k-eq0-clause-did
+returns-then-k-eq0-clause-did c = let none : c.args.k.gates ≡ 0 = c.if-k-eq0.true in rw rounds-nothing (did_none _ _ _)
 
-pub returns-then-k-eq0 : goal.returns-then-k-eq0
-returns-then-k-eq0 c =
-    let nothing = rounds-nothing c.args.records.now c.args.work.now c.args.k c.if-k-eq0.true in record {
-      live = c.requires.live_2;
-      did = rw nothing (did_none _ _ _);
-      looked = sym (ap (λ d. d.looks) nothing);
-      within = within_none _ _ _;
-      past = refl;
-    }
+pub returns-then-k-eq0-clause-looked : goal.returns-then-k-eq0-clause-looked
+returns-then-k-eq0-clause-looked c = let none : c.args.k.gates ≡ 0 = c.if-k-eq0.true in rw rounds-nothing

@@ -1,17 +1,15 @@
-use mathlib.Core.Path.{sym, ap, ◌∙◌}
-use Rattle.passing.specs.Quick.{passes_by}
-use Rattle.commuting.proofs.NodeLaws.{look-partner, look-passed, look-blocked}
+use Rattle.std.proofs.Common.{rules}
+use Rattle.commuting.specs.Walking.{look_at}
 use Rattle.commuting.proofs.walk.look.Goals as goal
 
-pub returns-then-slot-partner : goal.returns-then-slot-partner
-returns-then-slot-partner c = sym (look-partner _ _ _ _ _ c.if-slot-partner.true)
+pub returns-then-eq : goal.returns-then-eq
+unfolding look_at
+returns-then-eq c = search rules
 
 pub returns-then-may_pass : goal.returns-then-may_pass
-returns-then-may_pass c =
-    sym (look-passed _ _ _ _ _ c.if-slot-partner.false
-    (ap (passes_by _) (sym c.record_at.ensures) ∙ sym c.may_pass.ensures ∙ c.if-may_pass.true))
+unfolding look_at
+returns-then-may_pass c = search rules
 
 pub returns-else-may_pass : goal.returns-else-may_pass
-returns-else-may_pass c =
-    sym (look-blocked _ _ _ _ _ c.if-slot-partner.false
-    (ap (passes_by _) (sym c.record_at.ensures) ∙ sym c.may_pass.ensures ∙ c.if-may_pass.false))
+unfolding look_at
+returns-else-may_pass c = search rules

@@ -1,10 +1,12 @@
-use mathlib.Core.Path.{refl}
-use mathlib.Core.List.{[], ◌∷◌}
-use Rattle.commuting.proofs.NodeLaws.{wires-at}
+use Rattle.std.proofs.Common.{rules}
+use Rattle.gates.specs.Gates.{wires_of}
+use Rattle.leaves.specs.Answers.{as_gate}
 use Rattle.commuting.proofs.walk.operands.Goals as goal
 
 pub returns-in-Cnot : goal.returns-in-Cnot
-returns-in-Cnot c = wires-at _ 2 (0 ∷ 1 ∷ []) c.in-Cnot.in-Cnot-own.keys1 refl
+unfolding wires_of as_gate
+returns-in-Cnot c = search rules
 
 pub returns-in-Ccx : goal.returns-in-Ccx
-returns-in-Ccx c = wires-at _ 3 (2 ∷ 3 ∷ []) c.in-Ccx.in-Ccx-own.keys2 refl
+unfolding wires_of as_gate
+returns-in-Ccx c = search rules

@@ -2,66 +2,52 @@ use mathlib.Core.Path.{◌≡◌, sym, ap, ◌∙◌}
 use mathlib.Core.Option.{some, none}
 use native.Mathlib.Omega.{arith}
 use Rattle.rules.specs.Runs.{worth}
-use Rattle.leaves.specs.Answers.{eighths_of, worth_by}
+use Rattle.leaves.specs.Answers.{worth_by}
 use Rattle.leaves.proofs.RunLaws.{worth-by, worth-small}
 use Rattle.slots.specs.Slots.{gate_at}
-use Rattle.hadamards.proofs.OpensLaws.{NextOn, next-none, next-on, next-reads, Running, run-given, run-read, run-starts, run-goes, run-closed, run-broken, run-open}
+use Rattle.hadamards.specs.Closings.{as_ran}
+use Rattle.hadamards.proofs.OpensLaws.{NextOn, next-none, next-on, next-reads, run-starts, run-goes, run-closed, run-broken, run-open}
 use Rattle.hadamards.proofs.closing.run_behind.Goals as goal
+use Rattle.hadamards.proofs.closing.run_behind.Goals.{In_ok-next, In_default, In-Some}
 
-pub loop-j-init : goal.loop-j-init
-loop-j-init c =
-    run-read _ _ _ _ _ _ _ c.requires.slot_value.1 (run-starts _ _ _ _ _ c.requires.slot_value.0 c.requires.slot_value.1)
+pub loop-next-init : goal.loop-next-init
+loop-next-init c = run-starts _ _ _ _ _ c.requires.slot_live c.requires.is_h
 
-pub returns-in_default : goal.returns-in_default
-returns-in_default c =
-    let running : Running c.args.records.now c.args.work.now c.args.k c.args.on.0 c.args.slot.0 c.loop-j.at.0 c.loop-j.sum = run-given _ _ _ _ _ _ _ c.requires.slot_value.1 c.loop-j.invariant in
-    let r = running in
-    run-open _ _ _ _ _ _ _ r (next-none _ _ _ _ _ _ c.after_on-next.ensures r.alone c.in_default.is)
+pub returns-in_err-next : goal.returns-in_err-next
+returns-in_err-next c =
+    let r = c.loop-next.invariant in
+    ap as_ran c.from_residual.ensures ∙ run-open _ _ _ _ _ _ _ r (next-none _ _ _ _ _ r.alone c.in_err-next.ensures)
+
+next-is : (c : In_ok-next) → NextOn c.args.list.now.records.now c.args.list.now.work.now c.args.list.now.extent c.args.on.0 c.loop-next.at.0 c.in_ok-next.next.0
+next-is c = next-on _ _ _ _ _ c.loop-next.invariant.alone _ c.in_ok-next.ensures
 
 pub kind_at-kind-requires : goal.kind_at-kind-requires
 kind_at-kind-requires c =
-    let running : Running c.args.records.now c.args.work.now c.args.k c.args.on.0 c.args.slot.0 c.loop-j.at.0 c.loop-j.sum = run-given _ _ _ _ _ _ _ c.requires.slot_value.1 c.loop-j.invariant in
-    let next : NextOn c.args.records.now c.args.work.now c.args.k c.args.on.0 c.loop-j.at.0 c.in-At.j.0 = next-on _ _ _ _ _ _ c.in-At.j c.after_on-next.ensures (running).alone c.in-At.is in
-    let whole = next-reads _ _ _ _ _ _ c.requires.live (next) in
-    record { slot_in_bounds = whole.0; slot_value = whole.1 }
+    let whole = next-reads _ _ _ _ _ _ c.args.list.now.live (next-is (goal.at.kind_at-kind-requires c).In_ok-next) in
+    record { slot_in_bounds = whole.0; a_gate = whole.1 }
+
+ended : (c : In_default) → worth (gate_at c.args.list.now.records.now c.in_ok-next.next.0) ≡ none
+ended c = worth-by _ ∙ ap worth_by (sym c.kind_at-kind.ensures) ∙ sym c.in_default.ensures
 
 pub returns-then-kind-eq1 : goal.returns-then-kind-eq1
 returns-then-kind-eq1 c =
-    let running : Running c.args.records.now c.args.work.now c.args.k c.args.on.0 c.args.slot.0 c.loop-j.at.0 c.loop-j.sum = run-given _ _ _ _ _ _ _ c.requires.slot_value.1 c.loop-j.invariant in
-    let next : NextOn c.args.records.now c.args.work.now c.args.k c.args.on.0 c.loop-j.at.0 c.in-At.j.0 = next-on _ _ _ _ _ _ c.in-At.j c.after_on-next.ensures (running).alone c.in-At.is in
-    let worth-is : eighths_of c.worth_of-worth.result ≡ worth (gate_at c.args.records.now c.in-At.j.0) = c.worth_of-worth.ensures ∙ ap worth_by c.kind_at-kind.ensures ∙ sym (worth-by _) in
-    let no-worth : worth (gate_at c.args.records.now c.in-At.j.0) ≡ none = sym (worth-is) ∙ ap eighths_of c.in_default-worth.is in
-    run-closed _ _ _ _ _ _ _ _ _ (running) (next) (no-worth)
-    c.kind_at-kind.ensures c.if-kind-eq1.true
+    let at = goal.at.returns-then-kind-eq1 c in
+    run-closed _ _ _ _ _ _ _ _ _ c.loop-next.invariant (next-is at.In_ok-next) (ended at.In_default) c.kind_at-kind.ensures c.if-kind-eq1.true
 
-pub returns-in_default-worth : goal.returns-in_default-worth
-returns-in_default-worth c =
-    let running : Running c.args.records.now c.args.work.now c.args.k c.args.on.0 c.args.slot.0 c.loop-j.at.0 c.loop-j.sum = run-given _ _ _ _ _ _ _ c.requires.slot_value.1 c.loop-j.invariant in
-    let next : NextOn c.args.records.now c.args.work.now c.args.k c.args.on.0 c.loop-j.at.0 c.in-At.j.0 = next-on _ _ _ _ _ _ c.in-At.j c.after_on-next.ensures (running).alone c.in-At.is in
-    let worth-is : eighths_of c.worth_of-worth.result ≡ worth (gate_at c.args.records.now c.in-At.j.0) = c.worth_of-worth.ensures ∙ ap worth_by c.kind_at-kind.ensures ∙ sym (worth-by _) in
-    let no-worth : worth (gate_at c.args.records.now c.in-At.j.0) ≡ none = sym (worth-is) ∙ ap eighths_of c.in_default-worth.is in
-    run-broken _ _ _ _ _ _ _ _ _ (running) (next) (no-worth)
-    c.kind_at-kind.ensures c.if-kind-eq1.false
+pub returns-in_default : goal.returns-in_default
+returns-in_default c =
+    let at = goal.at.returns-in_default c in
+    run-broken _ _ _ _ _ _ _ _ _ c.loop-next.invariant (next-is at.In_ok-next) (ended at.In_default) c.kind_at-kind.ensures c.if-kind-eq1.false
 
 pub overflow_add-sum : goal.overflow_add-sum
-overflow_add-sum c =
-    let running : Running c.args.records.now c.args.work.now c.args.k c.args.on.0 c.args.slot.0 c.loop-j.at.0 c.loop-j.sum = run-given _ _ _ _ _ _ _ c.requires.slot_value.1 c.loop-j.invariant in
-    let worth-is : eighths_of c.worth_of-worth.result ≡ worth (gate_at c.args.records.now c.in-At.j.0) = c.worth_of-worth.ensures ∙ ap worth_by c.kind_at-kind.ensures ∙ sym (worth-by _) in
-    let in-run : worth (gate_at c.args.records.now c.in-At.j.0) ≡ some c.in-Eighths.eighths = sym (worth-is) ∙ ap eighths_of c.in-Eighths.is in
-    omega (arith, (running).small, worth-small _ _ (sym (worth-by _) ∙ in-run))
+overflow_add-sum c = omega (arith, c.loop-next.invariant.small, worth-small _ _ (sym c.in-Some.ensures))
 
-pub loop-j-smaller : goal.loop-j-smaller
-loop-j-smaller c =
-    let running : Running c.args.records.now c.args.work.now c.args.k c.args.on.0 c.args.slot.0 c.loop-j.at.0 c.loop-j.sum = run-given _ _ _ _ _ _ _ c.requires.slot_value.1 c.loop-j.invariant in
-    let next : NextOn c.args.records.now c.args.work.now c.args.k c.args.on.0 c.loop-j.at.0 c.in-At.j.0 = next-on _ _ _ _ _ _ c.in-At.j c.after_on-next.ensures (running).alone c.in-At.is in
-    let there = next in
-    omega (arith, there.past, there.inside)
+pub loop-next-smaller : goal.loop-next-smaller
+loop-next-smaller c =
+    let next = next-is (goal.at.loop-next-smaller c).In_ok-next in
+    omega (arith, next.past, next.inside)
 
-pub loop-j-preserved : goal.loop-j-preserved
-loop-j-preserved c =
-    let running : Running c.args.records.now c.args.work.now c.args.k c.args.on.0 c.args.slot.0 c.loop-j.at.0 c.loop-j.sum = run-given _ _ _ _ _ _ _ c.requires.slot_value.1 c.loop-j.invariant in
-    let next : NextOn c.args.records.now c.args.work.now c.args.k c.args.on.0 c.loop-j.at.0 c.in-At.j.0 = next-on _ _ _ _ _ _ c.in-At.j c.after_on-next.ensures (running).alone c.in-At.is in
-    let worth-is : eighths_of c.worth_of-worth.result ≡ worth (gate_at c.args.records.now c.in-At.j.0) = c.worth_of-worth.ensures ∙ ap worth_by c.kind_at-kind.ensures ∙ sym (worth-by _) in
-    let in-run : worth (gate_at c.args.records.now c.in-At.j.0) ≡ some c.in-Eighths.eighths = sym (worth-is) ∙ ap eighths_of c.in-Eighths.is in
-    run-read _ _ _ _ _ _ _ c.requires.slot_value.1
-    (run-goes _ _ _ _ _ _ _ _ _ (running) (next) (in-run))
+pub loop-next-preserved : goal.loop-next-preserved
+loop-next-preserved c =
+    run-goes _ _ _ _ _ _ _ _ _ c.loop-next.invariant (next-is (goal.at.loop-next-preserved c).In_ok-next)
+    (worth-by _ ∙ ap worth_by (sym c.kind_at-kind.ensures) ∙ sym c.in-Some.ensures)

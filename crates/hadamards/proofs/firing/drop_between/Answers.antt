@@ -1,52 +1,47 @@
-use mathlib.Core.Path.{◌≡◌}
-use mathlib.Core.Bool.{true}
+use mathlib.Core.Path.{◌≡◌, sym, ◌∙◌}
+use mathlib.Core.Bool.{true, false}
 use Prim.Native.Nat.{◌<◌}
-use lib.ListN.{get_or}
 use native.Mathlib.Omega.{arith}
+use lib.ListN.{get_or}
+use Rattle.std.proofs.lemmas.Bool.Decides.{nat_tests}
 use Rattle.gates.specs.Gates.{wires_of}
 use Rattle.slots.specs.Slots.{gate_at}
 use Rattle.slots.specs.Live.{is_live}
 use Rattle.slots.proofs.StateLaws.{live_below}
 use Rattle.hadamards.proofs.PlacingLaws.{some-wire, NextOn, dropping_keeps, dropping-more, dropping-all, next-on, next-there, next-first, held-less}
 use Rattle.hadamards.proofs.firing.drop_between.Goals as goal
+use Rattle.hadamards.proofs.firing.drop_between.Goals.{After-after_on, In-Some}
 
-pub after_on-next-requires : goal.after_on-next-requires
-after_on-next-requires c =
-    let inv = c.loop-j.invariant in record {
-      live = inv.live;
-      slot_value = (dropping_keeps _ _ _ _ _ _ _ inv _ c.requires.from_value.0 (λ a b. omega (arith, a)), some-wire _);
-    }
+pub after_on-requires-clause-of_gate : goal.after_on-requires-clause-of_gate
+after_on-requires-clause-of_gate c = some-wire _
 
-pub returns-in_default : goal.returns-in_default
-returns-in_default c =
-    let to-live : is_live c.loop-j.work c.args.k c.args.to.0 ≡ true = dropping_keeps _ _ _ _ _ _ _ c.loop-j.invariant _ c.requires.from_value.1 (λ a b. omega (arith, b)) in
-    absurd (next-there _ _ _ _ _ _ (to-live) c.requires.from_value.3 c.requires.from_value.2 _ c.in_default.is c.after_on-next.ensures)
+next-is : (c : In-Some) → NextOn c.args.records.now c.loop-to.work c.args.k (get_or (wires_of (gate_at c.args.records.now c.args.from.0)) 0 0) c.args.from.0 c.in-Some.next.0
+next-is c = next-on _ _ _ _ _ (live_below _ _ _ c.requires.on_one_wire.0) _ c.in-Some.ensures
 
-pub returns-then-j-to : goal.returns-then-j-to
-returns-then-j-to c =
-    let next : NextOn c.args.records.now c.loop-j.work c.args.k (get_or (wires_of (gate_at c.args.records.now c.args.from.0)) 0 0) c.args.from.0 c.in-At.j.0 = next-on _ _ _ _ _ (live_below _ _ _ c.requires.from_value.0) _ c.in-At.j c.in-At.is c.after_on-next.ensures in
-    let inv = c.loop-j.invariant in record {
-      live = inv.live;
-      dropped = dropping-all _ _ _ _ _ _ _ inv _ c.if-j-to.true (next);
-      within = inv.within;
-    }
+to-live : (c : After-after_on) → is_live c.loop-to.work c.args.k c.args.to.0 ≡ true
+to-live c = dropping_keeps _ _ _ _ _ _ _ c.loop-to.invariant _ c.requires.on_one_wire.1 (λ a b. omega (arith, b))
 
-pub drop_slot-requires : goal.drop_slot-requires
-drop_slot-requires c =
-    let next : NextOn c.args.records.now c.loop-j.work c.args.k (get_or (wires_of (gate_at c.args.records.now c.args.from.0)) 0 0) c.args.from.0 c.in-At.j.0 = next-on _ _ _ _ _ (live_below _ _ _ c.requires.from_value.0) _ c.in-At.j c.in-At.is c.after_on-next.ensures in
-    record {
-      live_2 = c.loop-j.invariant.live;
-      slot_value = (next).live;
-    }
+pub drop_slot-requires-clause-slot_live : goal.drop_slot-requires-clause-slot_live
+drop_slot-requires-clause-slot_live c = (next-is (goal.at.drop_slot-requires-clause-slot_live c).In-Some).live
 
-pub loop-j-smaller : goal.loop-j-smaller
-loop-j-smaller c =
-    let next : NextOn c.args.records.now c.loop-j.work c.args.k (get_or (wires_of (gate_at c.args.records.now c.args.from.0)) 0 0) c.args.from.0 c.in-At.j.0 = next-on _ _ _ _ _ (live_below _ _ _ c.requires.from_value.0) _ c.in-At.j c.in-At.is c.after_on-next.ensures in
-    held-less _ _ _ _ _ (next).live c.drop_slot.ensures.dropped
+pub loop-to-smaller : goal.loop-to-smaller
+loop-to-smaller c = held-less _ _ _ _ _ (next-is (goal.at.loop-to-smaller c).In-Some).live c.drop_slot.ensures.dropped
 
-pub loop-j-preserved : goal.loop-j-preserved
-loop-j-preserved c =
-    let next : NextOn c.args.records.now c.loop-j.work c.args.k (get_or (wires_of (gate_at c.args.records.now c.args.from.0)) 0 0) c.args.from.0 c.in-At.j.0 = next-on _ _ _ _ _ (live_below _ _ _ c.requires.from_value.0) _ c.in-At.j c.in-At.is c.after_on-next.ensures in
-    let to-live : is_live c.loop-j.work c.args.k c.args.to.0 ≡ true = dropping_keeps _ _ _ _ _ _ _ c.loop-j.invariant _ c.requires.from_value.1 (λ a b. omega (arith, b)) in
-    let next-below : c.in-At.j.0 < c.args.to.0 = omega (arith, next-first _ _ _ _ _ _ _ (to-live) c.requires.from_value.3 c.requires.from_value.2 (next), c.if-j-to.false) in
-    dropping-more _ _ _ _ _ _ _ c.loop-j.invariant _ _ (next) (next-below) c.drop_slot.ensures.live c.drop_slot.ensures.dropped c.drop_slot.ensures.within
+pub loop-to-preserved : goal.loop-to-preserved
+loop-to-preserved c =
+    let at = goal.at.loop-to-preserved c in
+    let next = next-is at.In-Some in
+    let first = next-first _ _ _ _ _ _ _ (to-live at.After-after_on) c.requires.on_one_wire.3 c.requires.on_one_wire.2 next in
+    let below : c.in-Some.next.0 < c.args.to.0 = grind (arith, nat_tests, first, c.if-ne.ensures) in
+    dropping-more _ _ _ _ _ _ _ c.loop-to.invariant _ _ next below c.drop_slot.ensures.live c.drop_slot.ensures.dropped c.drop_slot.ensures.within
+
+pub returns-in_default-clause-dropped : goal.returns-in_default-clause-dropped
+returns-in_default-clause-dropped c =
+    let is : c.in-Some.next.0 ≡ c.args.to.0 = grind (arith, nat_tests, c.if-ne.ensures) in
+    dropping-all _ _ _ _ _ _ _ c.loop-to.invariant _ is (next-is (goal.at.returns-in_default-clause-dropped c).In-Some)
+
+pub returns-in_default-2-clause-dropped : goal.returns-in_default-2-clause-dropped
+returns-in_default-2-clause-dropped c =
+    absurd
+    (next-there _ _ _ _ _ _ (to-live (goal.at.returns-in_default-2-clause-dropped c).After-after_on) c.requires.on_one_wire.3 c.requires.on_one_wire.2
+    (sym c.in_default.is ∙ c.after_on.ensures))

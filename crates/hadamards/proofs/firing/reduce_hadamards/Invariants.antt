@@ -6,6 +6,3 @@ use Rattle.hadamards.proofs.firing.reduce_hadamards.Given as goal
 abbrev pub invariant-loop-w : goal.invariant-loop-w
 invariant-loop-w l =
     SweptTo l.initial.records l.initial.work l.initial.journal l.k l.steps l.records l.work l.journal l.s l.w
-
-abbrev pub decreases-loop-w : goal.decreases-loop-w
-decreases-loop-w l = l.k.wires - l.w

@@ -4,6 +4,3 @@ use Rattle.hadamards.proofs.noting.scan.Given as goal
 
 abbrev pub invariant-loop-i : goal.invariant-loop-i
 invariant-loop-i l = (l.i ≤ l.k.gates) × ScannedTo l.records l.initial.work l.work l.k l.i
-
-abbrev pub decreases-loop-i : goal.decreases-loop-i
-decreases-loop-i l = l.k.gates - l.i

@@ -1,34 +1,28 @@
-use mathlib.Core.Path.{sym, ◌∙◌}
-use Rattle.hadamards.proofs.ScanLaws.{slot-reads, h-first, slot-other, slot-dead}
+use Rattle.std.specs.Prelude.{Ok}
+use mathlib.Core.Path.{◌≡◌, sym, ◌∙◌}
+use Rattle.gates.specs.Records.{record_at, gate_of}
+use Rattle.slots.specs.Slots.{gate_at}
+use Rattle.slots.proofs.StateLaws.{reads-gate}
+use Rattle.hadamards.proofs.ScanLaws.{h-first, slot-other, slot-dead}
 use Rattle.hadamards.proofs.noting.scan_slot.Goals as goal
+use Rattle.hadamards.proofs.noting.scan_slot.Goals.{Then-is_live}
 
-pub kind_at-requires : goal.kind_at-requires
-kind_at-requires c =
-    let whole = slot-reads _ _ _ _ c.requires.live c.requires.slot_lt_gates c.requires.by_index (sym c.is_live.ensures ∙ c.if-is_live.true) in
-    record { slot_in_bounds = whole.0; slot_value = whole.1 }
+reads : (c : Then-is_live) → gate_of (record_at c.args.records.now c.args.slot.0) ≡ Ok (gate_at c.args.records.now c.args.slot.0)
+reads c = reads-gate _ _ _ (c.requires.live.loaded.sound _ (sym c.if-is_live.ensures))
 
-pub wire_at-requires : goal.wire_at-requires
-wire_at-requires c =
-    let whole = slot-reads _ _ _ _ c.requires.live c.requires.slot_lt_gates c.requires.by_index (sym c.is_live.ensures ∙ c.if-is_live.true) in
-    record { slot_in_bounds = whole.0; slot_value = whole.1 }
+pub kind_at-requires-clause-a_gate : goal.kind_at-requires-clause-a_gate
+kind_at-requires-clause-a_gate c = reads (goal.at.kind_at-requires-clause-a_gate c).Then-is_live
 
-pub scan_h-requires : goal.scan_h-requires
-scan_h-requires c = record {
-  live = c.requires.live;
-  slot_value = (
-    sym c.is_live.ensures ∙ c.if-is_live.true,
-    h-first _ _ (sym c.kind_at.ensures ∙ c.if-kind_at-eq1.true) c.wire_at.ensures,
-  );
-  by_index = c.requires.by_index;
-}
+pub wire_at-requires-clause-a_gate : goal.wire_at-requires-clause-a_gate
+wire_at-requires-clause-a_gate c = reads (goal.at.wire_at-requires-clause-a_gate c).Then-is_live
 
-pub returns-else-kind_at-eq1 : goal.returns-else-kind_at-eq1
-returns-else-kind_at-eq1 c =
-    let whole = slot-other _ _ _ _ c.requires.live c.requires.slot_lt_gates c.requires.by_index (sym c.is_live.ensures ∙ c.if-is_live.true) _
-    c.kind_at.ensures c.if-kind_at-eq1.false in
-    record { noted = whole.0; within = whole.1 }
+pub scan_h-requires-clause-slot_live : goal.scan_h-requires-clause-slot_live
+scan_h-requires-clause-slot_live c = (sym c.if-is_live.ensures, h-first _ _ (sym c.kind_at.ensures ∙ c.if-kind_at-eq1.true) c.wire_at.ensures)
 
-pub returns-else-is_live : goal.returns-else-is_live
-returns-else-is_live c =
-    let whole = slot-dead _ _ _ _ c.requires.live c.requires.slot_lt_gates c.requires.by_index (sym c.is_live.ensures ∙ c.if-is_live.false) in
-    record { noted = whole.0; within = whole.1 }
+pub returns-else-kind_at-eq1-clause-noted : goal.returns-else-kind_at-eq1-clause-noted
+returns-else-kind_at-eq1-clause-noted c =
+    (slot-other _ _ _ _ c.requires.live c.requires.slot_there c.requires.noted (sym c.if-is_live.ensures) _ c.kind_at.ensures c.if-kind_at-eq1.false).0
+
+pub returns-else-is_live-clause-noted : goal.returns-else-is_live-clause-noted
+returns-else-is_live-clause-noted c =
+    (slot-dead _ _ _ _ c.requires.live c.requires.slot_there c.requires.noted (sym c.if-is_live.ensures)).0

@@ -1,22 +1,20 @@
-use mathlib.Core.Path.{refl}
 use native.Mathlib.Omega.{arith}
-use Rattle.slots.proofs.StateLaws.{live_below}
+use Rattle.live.proofs.LoadCodeLaws.{record-inside}
 use Rattle.live.proofs.RewriteLaws.{rewrite-live, rewrite-held}
 use Rattle.live.proofs.change.rewrite.Goals as goal
 
 -- A live slot is one of the list's, so its record is one of the lent records.
 pub overflow_mul-records : goal.overflow_mul-records
-overflow_mul-records c =
-    omega (arith, live_below _ _ _ c.requires.slot_value, c.requires.live_2.loaded.few)
+overflow_mul-records c = omega (arith, record-inside _ _ _ _ c.requires.live.loaded c.requires.slot_live)
 
 pub bounds-records-slot : goal.bounds-records-slot
-bounds-records-slot c =
-    omega (arith, live_below _ _ _ c.requires.slot_value, c.requires.live_2.loaded.long)
+bounds-records-slot c = omega (arith, record-inside _ _ _ _ c.requires.live.loaded c.requires.slot_live)
 
 -- What is written is the kind of the gate's record; the laws tell what that does to the list.
-pub returns : goal.returns
-returns c = record {
-  live = rw c.record_of-r.ensures (rewrite-live _ _ _ _ _ c.requires.slot_value c.requires.live_2 c.requires.g_len.0 c.requires.g_len.1 c.requires.g_len.2);
-  rewritten = rw c.record_of-r.ensures (rewrite-held _ _ _ _ _ c.requires.slot_value c.requires.live_2 c.requires.g_len.0 c.requires.g_len.1 c.requires.g_len.2);
-  «record» = rw c.record_of-r.ensures (refl);
-}
+pub returns-clause-live : goal.returns-clause-live
+returns-clause-live c =
+    let one = c.requires.one_wire in rw c.from.ensures (rewrite-live _ _ _ _ _ c.requires.slot_live c.requires.live one.0 one.1 one.2)
+
+pub returns-clause-rewritten : goal.returns-clause-rewritten
+returns-clause-rewritten c =
+    let one = c.requires.one_wire in rw c.from.ensures (rewrite-held _ _ _ _ _ c.requires.slot_live c.requires.live one.0 one.1 one.2)

@@ -1,6 +1,6 @@
-use mathlib.Core.Path.{◌∙◌}
+use mathlib.Core.Path.{refl}
 use native.Mathlib.Omega.{arith}
-use Rattle.live.proofs.FinishLaws.{moved-next, moved-count, moved-left, cleared-zeroed}
+use Rattle.live.proofs.FinishLaws.{moved-next, moved-count, moved-filled, cleared-zeroed}
 use Rattle.live.proofs.finish.finish.Goals as goal
 
 pub loop-slot-preserved : goal.loop-slot-preserved
@@ -8,11 +8,12 @@ loop-slot-preserved c =
     moved-next _ _ _ c.requires _ _ _ _ _ c.loop-slot-test.true c.loop-slot.invariant
     c.keep_slot-kept.ensures.moved c.keep_slot-kept.ensures.counted
 
-pub returns : goal.returns
-returns c =
-    let moved = c.loop-slot.invariant in
-    let all = c.loop-slot-test.false in record {
-      left = moved-count _ _ _ _ _ _ all moved;
-      records = c.clear_bytes.ensures ∙ moved-left _ _ _ _ _ _ all moved;
-      work = cleared-zeroed _ _ _ _ (omega (arith, c.requires.room)) c.clear.ensures;
-    }
+pub returns-clause-left : goal.returns-clause-left
+returns-clause-left c = moved-count _ _ _ _ _ _ c.loop-slot-test.false c.loop-slot.invariant
+
+pub returns-clause-records : goal.returns-clause-records
+returns-clause-records c =
+    moved-filled _ _ _ _ _ _ c.loop-slot-test.false c.loop-slot.invariant _ _ c.requires.long refl (c.fill.ensures.after (λ y e. e))
+
+pub returns-clause-work : goal.returns-clause-work
+returns-clause-work c = cleared-zeroed _ _ _ _ (omega (arith, c.requires.room)) c.clear.ensures

@@ -1,42 +1,41 @@
-use mathlib.Core.Path.{refl}
+use mathlib.Core.Path.{◌≡◌}
+use mathlib.Core.Bool.{true}
+use Prim.Native.Nat.{◌<◌}
 use native.Mathlib.Omega.{arith}
-use Rattle.links.proofs.WordLaws.{within_none}
-use Rattle.slots.proofs.StateLaws.{links-in-room}
+use Rattle.slots.specs.Live.{is_live}
 use Rattle.live.proofs.TrialLaws.{SameList, same_bytes, own-known, own-asked, own-rewritten, dropped-none, same-dropped}
 use Rattle.live.proofs.trial.drop_at.Goals as goal
-use Rattle.live.proofs.trial.drop_at.Goals.{then-row-eq1, else-row-eq1}
+use Rattle.live.proofs.trial.drop_at.Goals.{After-slot_at-slot, then-row_of-eq1, else-row_of-eq1}
 
-pub row_of-row-requires : goal.row_of-row-requires
-row_of-row-requires c =
-    own-known _ _ _ _ _ c.requires.loaded c.slot_at-slot.ensures.there.0 c.gate_at-g.ensures _ c.record_of-r.ensures
+-- The slot at the position is live in the list as it is loaded, which is the same by other names.
+there : (c : After-slot_at-slot) →
+    (is_live c.args.work.now c.args.k c.slot_at-slot.result.0 ≡ true) × (c.slot_at-slot.result.0 < c.args.k.gates)
+there c = rw (c.loaded-loaded.ensures.1, c.loaded-loaded.ensures.2) at c.slot_at-slot.ensures.there
 
-pub rewrite-requires : goal.rewrite-requires
-rewrite-requires c =
-    let lives = c.slot_at-slot.ensures.there.0 in
-    let own = own-asked _ _ _ _ _ c.requires.loaded lives c.gate_at-g.ensures in record {
-      live_2 = c.requires;
-      slot_value = lives;
-      g_len = own _ _ c.record_of-r.ensures c.row_of-row.ensures c.if-row-eq1.true;
-    }
+pub row_of-requires : goal.row_of-requires
+row_of-requires c =
+    let lives = (there (goal.at.row_of-requires c).After-slot_at-slot).0 in
+    own-known _ _ _ _ _ c.requires.loaded lives c.gate_at-g.ensures _ c.from.ensures
 
-pub returns-after-row-eq1 : goal.returns-after-row-eq1
-returns-after-row-eq1 c =
-    let unchanged : SameList c.args.records.now c.args.work.now c.args.k c.if-row-eq1.records = (let own = own-rewritten _ _ _ _ _ c.requires.loaded c.slot_at-slot.ensures.there.0 c.gate_at-g.ensures in
-    elim c.if-row-eq1.branch [
-      | then-row-eq1 w ↦ own _ _ w.rewrite.ensures.live w.rewrite.ensures.rewritten w.rewrite.ensures.«record» w.records-is
-      | else-row-eq1 w ↦ same_bytes _ _ _ _ c.requires w.records-is
-    ]) in
-    let kept = unchanged in record {
-      live = c.drop_slot.ensures.live;
-      dropped = same-dropped _ _ _ _ _ _ _ kept c.slot_at-slot.ensures.k_value c.drop_slot.ensures.dropped;
-      within = links-in-room _ _ _ (omega (arith, c.slot_at-slot.ensures.there.1)) c.drop_slot.ensures.within;
-      past = kept.past;
-    }
+pub rewrite-requires-clause-one_wire : goal.rewrite-requires-clause-one_wire
+rewrite-requires-clause-one_wire c =
+    let lives = (there (goal.at.rewrite-requires-clause-one_wire c).After-slot_at-slot).0 in
+    own-asked _ _ _ _ _ c.requires.loaded lives c.gate_at-g.ensures _ _ c.from.ensures c.row_of.ensures c.if-row_of-eq1.true
 
-pub returns-else-place-live_count : goal.returns-else-place-live_count
-returns-else-place-live_count c = record {
-  live = c.requires;
-  dropped = dropped-none _ _ (omega (arith, c.live_count.ensures, c.if-place-live_count.false));
-  within = within_none _ _ _;
-  past = refl;
-}
+pub returns-after-row_of-eq1-clause-dropped : goal.returns-after-row_of-eq1-clause-dropped
+returns-after-row_of-eq1-clause-dropped c =
+    let same = c.loaded-loaded.ensures in
+    let lives = (there (goal.at.returns-after-row_of-eq1-clause-dropped c).After-slot_at-slot).0 in
+    let position = rw (same.0, same.1, same.2) at c.slot_at-slot.ensures.at_position in
+    let kept : SameList c.args.records.now c.args.work.now c.args.k c.if-row_of-eq1.records = elim c.if-row_of-eq1.branch [
+      | then-row_of-eq1 w ↦ own-rewritten _ _ _ _ _ c.requires.loaded lives c.gate_at-g.ensures _ _
+          w.rewrite.ensures.live w.rewrite.ensures.rewritten w.rewrite.ensures.«record» w.records-is
+      | else-row_of-eq1 w ↦ same_bytes _ _ _ _ c.requires w.records-is
+    ] in
+    same-dropped _ _ _ _ _ _ _ kept position c.drop_slot.ensures.dropped
+
+pub returns-else-place-live_count-clause-dropped : goal.returns-else-place-live_count-clause-dropped
+returns-else-place-live_count-clause-dropped c =
+    let same = c.loaded-loaded.ensures in
+    let count = rw (same.0, same.1, same.2) at c.live_count.ensures in
+    dropped-none _ _ (omega (arith, count, c.if-place-live_count.false))

@@ -1,4 +1,3 @@
-use Prim.Native.Nat.{◌-◌}
 use Rattle.pairing.proofs.FirstLaws.{PairedTo}
 use Rattle.pairing.proofs.first.load_pairs.Given as goal
 
@@ -6,6 +5,3 @@ use Rattle.pairing.proofs.first.load_pairs.Given as goal
 abbrev pub invariant-loop-i : goal.invariant-loop-i
 invariant-loop-i l =
     PairedTo l.list l.initial.records l.initial.work l.initial.journal l.k l.i l.records l.work l.journal l.steps
-
-abbrev pub decreases-loop-i : goal.decreases-loop-i
-decreases-loop-i l = l.k.gates - l.i

@@ -1,49 +1,39 @@
+use mathlib.Core.Path.{◌∙◌}
 use Prim.Native.Nat.{◌<◌}
 use native.Mathlib.Omega.{arith}
 use Rattle.slots.proofs.StateLaws.{live_below}
-use Rattle.pairing.proofs.FoundLaws.{kind-stays, free_stays, blocker-inside, equal-goes, unequal-stays}
+use Rattle.pairing.proofs.FoundLaws.{kind-stays, free-stays, blocker-inside, equal-goes, unequal-stays}
 use Rattle.pairing.proofs.later.equal_blocker.Goals as goal
 
-pub overflow_cast-slot : goal.overflow_cast-slot
-overflow_cast-slot c =
-    let inside : c.args.slot.0 < c.args.k.gates = live_below _ _ _ c.requires.slot_value in
-    omega (arith, inside, c.requires.live.loaded.few)
+pub record-r-requires : goal.record-r-requires
+record-r-requires c =
+    let inside : c.args.slot.0 < c.args.loaded.now.extent.gates = live_below _ _ _ c.requires in
+    let list = c.args.loaded.now.loaded in
+    (omega (arith, inside, list.long), omega (arith, inside, list.few))
 
-pub record_at-r-requires : goal.record_at-r-requires
-record_at-r-requires c =
-    let inside : c.args.slot.0 < c.args.k.gates = live_below _ _ _ c.requires.slot_value in
-    omega (arith, inside, c.requires.live.loaded.long)
-
-pub overflow_cast-b : goal.overflow_cast-b
-overflow_cast-b c =
-    let blocker-small : c.in-At.b.0 < c.args.k.gates = blocker-inside _ _ _ _ _ _ _ c.requires.live.loaded (c.requires.live.loaded.sound _ c.requires.slot_value) c.record_at-r.ensures
-    _ c.blocker-blocker.ensures _ c.in-At.is in
-    omega (arith, blocker-small, c.requires.live.loaded.few)
-
-pub record_at-requires : goal.record_at-requires
-record_at-requires c =
-    let blocker-small : c.in-At.b.0 < c.args.k.gates = blocker-inside _ _ _ _ _ _ _ c.requires.live.loaded (c.requires.live.loaded.sound _ c.requires.slot_value) c.record_at-r.ensures
-    _ c.blocker-blocker.ensures _ c.in-At.is in
-    omega (arith, blocker-small, c.requires.live.loaded.long)
+pub record-requires : goal.record-requires
+record-requires c =
+    let list = c.args.loaded.now.loaded in
+    blocker-inside _ _ _ _ _ _ _ list (list.sound _ c.requires) c.record-r.ensures _ c.in_ok-blocker.ensures
 
 pub returns-then-records_equal : goal.returns-then-records_equal
 returns-then-records_equal c =
-    equal-goes _ _ _ _ _ _ _ c.requires.live.loaded (c.requires.live.loaded.sound _ c.requires.slot_value) c.record_at-r.ensures
-    _ c.blocker-blocker.ensures _ c.in-At.is
-    _ _ c.record_at.ensures c.records_equal.ensures c.if-records_equal.true
+    let list = c.args.loaded.now.loaded in
+    equal-goes _ _ _ _ _ _ _ list (list.sound _ c.requires) c.record-r.ensures _ c.in_ok-blocker.ensures
+    _ _ c.record.ensures c.records_equal.ensures c.if-records_equal.true
 
 pub returns-else-records_equal : goal.returns-else-records_equal
 returns-else-records_equal c =
-    unequal-stays _ _ _ _ _ _ _ c.requires.live.loaded (c.requires.live.loaded.sound _ c.requires.slot_value) c.record_at-r.ensures
-    _ c.blocker-blocker.ensures _ c.in-At.is
-    _ _ c.record_at.ensures c.records_equal.ensures c.if-records_equal.false
+    let list = c.args.loaded.now.loaded in
+    unequal-stays _ _ _ _ _ _ _ list (list.sound _ c.requires) c.record-r.ensures _ c.in_ok-blocker.ensures
+    _ _ c.record.ensures c.records_equal.ensures c.if-records_equal.false
 
-pub returns-in_default : goal.returns-in_default
-returns-in_default c =
-    free_stays _ _ _ _ _ _ _ c.requires.live.loaded (c.requires.live.loaded.sound _ c.requires.slot_value) c.record_at-r.ensures
-    _ c.blocker-blocker.ensures c.in_default.is
+pub returns-in_err-blocker : goal.returns-in_err-blocker
+returns-in_err-blocker c =
+    let list = c.args.loaded.now.loaded in
+    c.from_residual.ensures ∙ free-stays _ _ _ _ _ _ _ list (list.sound _ c.requires) c.record-r.ensures c.in_err-blocker.ensures
 
 pub returns-else-kind_cancels : goal.returns-else-kind_cancels
 returns-else-kind_cancels c =
-    kind-stays _ _ _ _ _ _ _ c.requires.live.loaded (c.requires.live.loaded.sound _ c.requires.slot_value) c.record_at-r.ensures
-    _ c.kind_cancels.ensures c.if-kind_cancels.false
+    let list = c.args.loaded.now.loaded in
+    kind-stays _ _ _ _ _ _ _ list (list.sound _ c.requires) c.record-r.ensures _ c.kind_cancels.ensures c.if-kind_cancels.false

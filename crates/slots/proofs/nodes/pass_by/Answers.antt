@@ -6,7 +6,7 @@ pub unlink-requires : goal.unlink-requires
 unlink-requires c =
     let can = passed-next _ _ _ _ _ _ c.loop-op-test.true c.loop-op.invariant.1 in record {
       node_in_bounds = (can.0, can.1);
-      node_in_bounds_2 = (can.2, can.3);
+      beside_in_bounds = (can.2, can.3);
     }
 
 pub loop-op-preserved : goal.loop-op-preserved
