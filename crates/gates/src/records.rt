@@ -4,7 +4,6 @@ ghost use Rattle.std.proofs.lemmas.List.Edits.{sets};
 ghost use Rattle.gates.specs.Records.{record_at, named_by, gate_of, record_of, record_bytes, used_of, unused_of, all_zero, with_words};
 
 use crate::{Bit, Gate, Position, Wire, kinds, words};
-use std::fmt;
 
 // The fields of a record, in the order of its bytes. The kind stays the number that a list holds: document 01 asks for a match on
 // it, and the sweeps decide by it, since to decode each gate costs more (DECISIONS 53).
@@ -23,16 +22,6 @@ pub enum NoGate {
     Angle,
     Unknown,
     NotZero,
-}
-
-impl fmt::Display for NoGate {
-    fn fmt<W: fmt::Write>(&self, f: &mut fmt::Formatter<W>) -> fmt::Result {
-        f.write_str(match self {
-            NoGate::Angle => "the kind carries an angle",
-            NoGate::Unknown => "no kind has this code",
-            NoGate::NotZero => "an unused byte or word is not zero",
-        })
-    }
 }
 
 // The record at a position of a list.

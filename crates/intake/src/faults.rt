@@ -4,7 +4,6 @@ ghost use Rattle.intake.specs.Faults.{number_in, fault_of, refusal};
 
 use gates::Position;
 use gates::records::NoGate;
-use std::fmt;
 
 // The faults that the tests 1 to 12 find, each with its number.
 #[derive(Clone, Copy, PartialEq, Eq)]
@@ -55,24 +54,5 @@ impl From<NoGate> for Fault {
             NoGate::Unknown => Fault::UnknownKind,
             NoGate::NotZero => Fault::NotZero,
         }
-    }
-}
-
-impl fmt::Display for Fault {
-    fn fmt<W: fmt::Write>(&self, f: &mut fmt::Formatter<W>) -> fmt::Result {
-        f.write_str(match self {
-            Fault::TooWide => "wires or classical bits over 65,536",
-            Fault::NotWhole => "list bytes no multiple of 16",
-            Fault::TooLong => "over 1,048,576 records",
-            Fault::OutputShort => "output buffer shorter than the list",
-            Fault::WorkShort => "work room under 16g + 4n 32-bit words",
-            Fault::JournalShort => "journal room under 24g bytes",
-            Fault::Angle => "the kind carries an angle",
-            Fault::UnknownKind => "no kind has this code",
-            Fault::NotZero => "an unused byte or word is not zero",
-            Fault::WireOver => "a wire at or over the number of wires",
-            Fault::WireTwice => "a wire twice in one gate",
-            Fault::BitOver => "a classical bit at or over their number",
-        })
     }
 }
