@@ -1,5 +1,6 @@
 // The live list for Rust: each function is one of `asking` or `live` under a C name, for bench/ and its comparison, with an extent
-// and a list in the parts that C has.
+// and a list in the parts that C has. No boundary for users: what is asked here the caller has to meet (docs/DECISIONS.md, 41); the
+// entries of `stridebank` ask nothing.
 #![tactic(auto)]
 
 ghost use Rattle.std.specs.Prelude.{◌≡◌, true, ℕ, ◌*◌, ◌≤◌, ◌<◌, length, drop};
