@@ -1,11 +1,24 @@
 // Numbers 10 to 12: the operands of one record.
-ghost use Rattle.std.specs.Prelude.{◌≡◌, [], ◌∷◌, ◌≤◌, ◌<◌, take};
+ghost use Rattle.std.specs.Prelude.{◌≡◌, [], ◌∷◌, ◌≤◌, ◌<◌, leb, take};
 ghost use Rattle.gates.specs.Gates.{twice};
 ghost use Rattle.intake.specs.Tests.{first_failing, operand_tests, any_over};
 
 use crate::faults::{Fault, Refusal};
 use gates::records::Record;
-use gates::{Position, kinds};
+use gates::{Bit, Position, Wire, kinds};
+
+// A wire against the number of wires, a bit against that of bits: two functions, so that neither is taken for the other.
+fn wire_over(wire: Wire, wires: usize) -> bool
+    ensures { result ≡ leb wires wire.0 }
+{
+    wires <= wire.0 as usize
+}
+
+fn bit_over(bit: Bit, bits: usize) -> bool
+    ensures { result ≡ leb bits bit.0 }
+{
+    bits <= bit.0 as usize
+}
 
 // Whether one of a record's first `count` words is at or over `wires`. No branch goes by the count, and so no
 // loop: lists mix kinds freely (docs/PERFORMANCE.md has the times of both forms).
@@ -14,9 +27,9 @@ fn any_over(count: u8, r: Record, wires: usize) -> bool
     requires { (1 ≤ count) × (count ≤ 3) }
     ensures { result ≡ any_over wires (take count (r.first ∷ r.second ∷ r.third ∷ [])) }
 {
-    (wires <= r.first as usize)
-        | ((2 <= count) & (wires <= r.second as usize))
-        | ((3 <= count) & (wires <= r.third as usize))
+    wire_over(Wire(r.first), wires)
+        | ((2 <= count) & wire_over(Wire(r.second), wires))
+        | ((3 <= count) & wire_over(Wire(r.third), wires))
 }
 
 // Whether one of a record's first `count` words stands there twice.
@@ -42,7 +55,7 @@ pub fn test_operands(r: Record, place: Position, wires: usize, bits: usize) -> R
     if any_twice(row.operands, r) {
         return Err(Fault::WireTwice.at(place));
     }
-    if (r.kind == 12) & (bits <= r.second as usize) {
+    if (r.kind == 12) & bit_over(Bit(r.second), bits) {
         return Err(Fault::BitOver.at(place));
     }
     Ok(())
