@@ -6,7 +6,7 @@ use Rattle.cancel.proofs.rounds.repeat.Goals as goal
 use Rattle.cancel.proofs.rounds.repeat.Goals.{After-sweep-swept}
 
 pub loop-s-init : goal.loop-s-init
-loop-s-init g c = so-far-none _ _ _ _ _ _ c.requires.live
+loop-s-init g c = so-far-none _ _ _ _ _ _ _ c.requires.live
 
 pub sweep-swept-requires-clause-room : goal.sweep-swept-requires-clause-room
 sweep-swept-requires-clause-room g c = (c.requires.room.0, next_fits c.loop-s.invariant (g.met.S.Sweeps.replays _) c.requires.room.1)
@@ -19,7 +19,7 @@ overflow_add-looks g c = omega (arith, next-looks c.loop-s.invariant (g.met.S.Sw
 
 once : (g : Over) (c : After-sweep-swept g) →
     let swept = c.sweep-swept in
-    Once (g.S.Sweeps.does c.args.k.wires) c.args.k c.loop-s.records c.loop-s.work c.loop-s.journal swept.new.records swept.new.work swept.new.journal
+    Once (g.S.Sweeps.does c.args.k.wires) c.args.k (g.S.Sweeps.leaves_from c.args.k) c.loop-s.records c.loop-s.work c.loop-s.journal swept.new.records swept.new.work swept.new.journal
     c.loop-s.s swept.result.steps
 once g c = search rules
 
