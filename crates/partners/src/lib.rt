@@ -130,7 +130,7 @@ pub fn pair_up(records: &[u8], work: &mut [u32], k: Extent)
         return;
     }
     let base = k.pairs_at();
-    let count = list_pairs(records, work, k, base + 2 * (g + 1));
+    let count = list_pairs(records, work, k, k.spare_at());
     order::pair_up(
         work,
         Room {
