@@ -1,5 +1,6 @@
 -- The laws of sorting and linking.
 pub mod KeyLaws
+pub mod SameKeysLaws
 pub mod PassLaws
 pub mod TallyLaws
 pub mod SumLaws
