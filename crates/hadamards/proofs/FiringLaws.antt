@@ -313,3 +313,11 @@ module _ (live live' : ℕ → Bool) (gates gates' : ℕ → Gate) (w : ℕ) whe
   firings-kept from i count e f =
       sym (firings-only w from (cells_from live gates i count)) ∙ ap (firings w from) (only_kept i count e f)
       ∙ firings-only w from (cells_from live' gates' i count)
+
+  pub closing-kept : (i count : ℕ) →
+      ((j : ℕ) → i ≤ j → j < i + count → (live j && touches w (gates j)) ≡ (live' j && touches w (gates' j))) →
+      ((j : ℕ) → i ≤ j → j < i + count → (live j && touches w (gates j)) ≡ true → gates j ≡ gates' j) →
+      closing_of w (cells_from live gates i count) ≡ closing_of w (cells_from live' gates' i count)
+  closing-kept i count e f =
+      sym (closing-only w (cells_from live gates i count)) ∙ ap (closing_of w) (only_kept i count e f)
+      ∙ closing-only w (cells_from live' gates' i count)

@@ -92,11 +92,12 @@ module _ (bytes words list : List ℕ) (k : Extent) (i place : ℕ) (s : Record)
     blocker-live : is_live words k b.0 ≡ true
     blocker-live = subst (λ (x : ℕ). is_live words k x ≡ true) parted.slot part.live_here
 
+    pub blocker-inside : b.0 < k.gates
+    blocker-inside = live_below words k b.0 blocker-live
+
     -- Its record can be read.
-    pub blocker-inside : (16 * b.0 + 16 ≤ length bytes) × (b.0 < 1048576)
-    blocker-inside =
-        let inside : b.0 < k.gates = live_below words k b.0 blocker-live in
-        (omega (arith, l.long), omega (arith, l.few))
+    pub blocker-reads : (16 * b.0 + 16 ≤ length bytes) × (b.0 < 1048576)
+    blocker-reads = (omega (arith, blocker-inside, l.long), omega (arith, blocker-inside, l.few))
 
     -- It has been read and compared.
     module _ (r : Record) (t : Bool) (reads : r ≡ record_at bytes b.0) (compared : t ≡ cancels_by r s) where

@@ -1,10 +1,10 @@
 use mathlib.Core.Path.{◌∙◌}
-use Rattle.pairing.proofs.FoundLaws.{kind-stays, free-stays, blocker-inside, equal-goes, unequal-stays}
+use Rattle.pairing.proofs.FoundLaws.{kind-stays, free-stays, blocker-reads, equal-goes, unequal-stays}
 use Rattle.pairing.proofs.first.equal_last.Goals as goal
 
 pub record-requires : goal.record-requires
 record-requires c =
-    blocker-inside _ _ _ _ _ _ _ c.args.loaded.now.loaded c.requires.1 c.record_at-r.ensures _ c.in_ok-blocker.ensures
+    blocker-reads _ _ _ _ _ _ _ c.args.loaded.now.loaded c.requires.1 c.record_at-r.ensures _ c.in_ok-blocker.ensures
 
 pub returns-then-records_equal : goal.returns-then-records_equal
 returns-then-records_equal c =

@@ -2,7 +2,7 @@ use mathlib.Core.Path.{◌∙◌}
 use Prim.Native.Nat.{◌<◌}
 use native.Mathlib.Omega.{arith}
 use Rattle.slots.proofs.StateLaws.{live_below}
-use Rattle.pairing.proofs.FoundLaws.{kind-stays, free-stays, blocker-inside, equal-goes, unequal-stays}
+use Rattle.pairing.proofs.FoundLaws.{kind-stays, free-stays, blocker-reads, equal-goes, unequal-stays}
 use Rattle.pairing.proofs.later.equal_blocker.Goals as goal
 
 pub record-r-requires : goal.record-r-requires
@@ -14,7 +14,7 @@ record-r-requires c =
 pub record-requires : goal.record-requires
 record-requires c =
     let list = c.args.loaded.now.loaded in
-    blocker-inside _ _ _ _ _ _ _ list (list.sound _ c.requires) c.record-r.ensures _ c.in_ok-blocker.ensures
+    blocker-reads _ _ _ _ _ _ _ list (list.sound _ c.requires) c.record-r.ensures _ c.in_ok-blocker.ensures
 
 pub returns-then-records_equal : goal.returns-then-records_equal
 returns-then-records_equal c =
