@@ -1,11 +1,10 @@
 // Sweeps again until nothing changes, and rounds of them. The lent slices go apart: document 01, "separate lent slices".
-ghost use Rattle.std.specs.Prelude.{◌≡◌, ℕ, ◌+◌, ◌*◌, ◌^◌, ◌≤◌, ◌<◌, length, drop};
+ghost use Rattle.std.specs.Prelude.{◌≡◌, Bool, true, false, cond, ℕ, ◌+◌, ◌*◌, ◌^◌, ◌≤◌, ◌<◌, length, drop};
 ghost use Rattle.rules.specs.Equal.{seven};
 ghost use Rattle.rules.specs.Sweeps.{Sweep, hadamard_sweep, commuting_sweep};
 ghost use Rattle.rules.specs.Loop.{repeated, round};
 ghost use Rattle.rules.proofs.Replays.{Replays, hadamard-replays, commuting-replays, round-replays};
 ghost use Rattle.links.specs.Words.{Within};
-ghost use Rattle.slots.specs.declared.Extent.{Extent};
 ghost use Rattle.slots.specs.Live.{words_for, held, Live};
 ghost use Rattle.journal.specs.Sweeping.{Did};
 
@@ -15,11 +14,11 @@ use hadamards::firing;
 use pairing::later;
 use slots::Extent;
 
-// A sweep over the live list: what it does on so many wires, from which byte on it leaves the records, and that its steps lead there.
+// A sweep over the live list: what it does on so many wires, whether it only reads the records, and that its steps lead there.
 trait Sweeps {
     ghost does: { ℕ → Sweep ℕ };
 
-    ghost leaves_from: { Extent → ℕ };
+    ghost only_reads: { Bool };
 
     fn sweep(
         records: &mut [u8],
@@ -35,7 +34,7 @@ trait Sweeps {
         ensures did { Did (does k.wires (held records.old work.old k)) (held records.new work.new k) steps result.steps journal.old journal.new }
         ensures looked { result.looks ≡ (does k.wires (held records.old work.old k)).looks }
         ensures within { Within 0 (words_for k) work.old work.new }
-        ensures past { drop (leaves_from k) records.new ≡ drop (leaves_from k) records.old };
+        ensures past { drop (cond only_reads 0 (16 * k.gates)) records.new ≡ drop (cond only_reads 0 (16 * k.gates)) records.old };
 
     ghost replays: { (n : ℕ) → Replays seven (does n) };
 }
@@ -55,7 +54,7 @@ fn repeat<S: Sweeps>(
     ensures did { Did (repeated (S.does k.wires) (held records.old work.old k)) (held records.new work.new k) steps result.steps journal.old journal.new }
     ensures looked { result.looks ≡ (repeated (S.does k.wires) (held records.old work.old k)).looks }
     ensures within { Within 0 (words_for k) work.old work.new }
-    ensures past { drop (S.leaves_from k) records.new ≡ drop (S.leaves_from k) records.old }
+    ensures past { drop (cond S.only_reads 0 (16 * k.gates)) records.new ≡ drop (cond S.only_reads 0 (16 * k.gates)) records.old }
 {
     let mut s = steps;
     let mut looks: u64 = 0;
@@ -74,7 +73,7 @@ struct Hadamards;
 impl Sweeps for Hadamards {
     ghost does = { λ n. hadamard_sweep n };
 
-    ghost leaves_from = { λ k. 16 * k.gates };
+    ghost only_reads = { false };
 
     ghost replays = { λ n. hadamard-replays seven n };
 
@@ -97,7 +96,7 @@ struct Commuting;
 impl Sweeps for Commuting {
     ghost does = { λ n. commuting_sweep };
 
-    ghost leaves_from = { λ k. 0 };
+    ghost only_reads = { true };
 
     ghost replays = { λ n. commuting-replays seven };
 
@@ -118,7 +117,7 @@ struct Round;
 impl Sweeps for Round {
     ghost does = { λ n. round seven n };
 
-    ghost leaves_from = { λ k. 16 * k.gates };
+    ghost only_reads = { false };
 
     ghost replays = { λ n. round-replays seven n };
 

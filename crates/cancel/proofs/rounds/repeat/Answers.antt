@@ -1,3 +1,5 @@
+use mathlib.Core.Bool.{cond}
+use Prim.Native.Nat.{◌*◌}
 use native.Mathlib.Omega.{arith}
 use Rattle.std.proofs.Common.{rules}
 use Rattle.cancel.proofs.AgainLaws.{Once, so-far-none, next_fits, next-looks, one_more, smaller, all_done, all-looked}
@@ -19,7 +21,7 @@ overflow_add-looks g c = omega (arith, next-looks c.loop-s.invariant (g.met.S.Sw
 
 once : (g : Over) (c : After-sweep-swept g) →
     let swept = c.sweep-swept in
-    Once (g.S.Sweeps.does c.args.k.wires) c.args.k (g.S.Sweeps.leaves_from c.args.k) c.loop-s.records c.loop-s.work c.loop-s.journal swept.new.records swept.new.work swept.new.journal
+    Once (g.S.Sweeps.does c.args.k.wires) c.args.k (cond g.S.Sweeps.only_reads 0 (16 * c.args.k.gates)) c.loop-s.records c.loop-s.work c.loop-s.journal swept.new.records swept.new.work swept.new.journal
     c.loop-s.s swept.result.steps
 once g c = search rules
 
