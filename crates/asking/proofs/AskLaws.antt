@@ -1,6 +1,6 @@
 -- What the links, the pairs and the ranks of a live list answer: the slots that its list of cells names.
-use Rattle.std.specs.Prelude.{Some, None, Result, Ok}
-use mathlib.Core.Path.{◌≡◌, refl, sym, ap, ap₂, ◌∙◌}
+use Rattle.std.specs.Prelude.{Option as Answer, Some, None, Result, Ok}
+use mathlib.Core.Path.{◌≡◌, refl, sym, ap, ap₂, subst, ◌∙◌}
 use mathlib.Core.Bool.{Bool, true, cond, ◌&&◌}
 use mathlib.Core.List.{List, [], ◌∷◌}
 use mathlib.Core.Option.{Option, some, none}
@@ -27,12 +27,21 @@ use Rattle.links.proofs.SeekLaws.{IsLatest, IsEarliest, latest-is, earliest-is}
 use Rattle.ranks.specs.Ranks.{Ranks, marks, below}
 use Rattle.ranks.proofs.SumLaws.{below_none}
 use Rattle.slots.specs.declared.Extent.{Extent}
+use Rattle.slots.specs.declared.Slot.{Slot}
 use Rattle.slots.specs.Slots.{gate_in, gate_at, cells_from, slot_of, slot_as, found}
 use Rattle.slots.specs.Live.{prev_at, ranks_at, pairs_at, is_live, held, earlier, later, operand_of, node_on, end_of, on_wire, Loaded, Forward, Partners}
 use Rattle.slots.specs.Nodes.{slot_in}
 use Rattle.slots.proofs.HeldLaws.{cut_below, cut-from, length-below, length_from, cut-at}
 use Rattle.slots.proofs.WireLaws.{at-most-three, operand-is, operand-there, operand_at}
 use Rattle.slots.proofs.StateLaws.{live-is, live_below, mark-live, gate-is, wires-small, wires-once}
+
+-- ------------------------------------------------------------ the side of the links back
+
+-- The slot beside a node on that side, however the place of its link was come by.
+pub beside-at : (k : Extent) (words : List ℕ) (at node : ℕ) (r : Answer Slot) (o : Option ℕ) → r ≡ found (slot_in (3 * k.gates) (get_or words at 0)) →
+    slot_in (3 * k.gates) (word words (prev_at k) node) ≡ o → at ≡ prev_at k + node → r ≡ found o
+beside-at k words at node r o said is e =
+    said ∙ ap (λ (at : ℕ). found (slot_in (3 * k.gates) (get_or words at 0))) e ∙ ap found is
 
 -- ------------------------------------------------------------ the gate in a slot
 

@@ -1,5 +1,5 @@
 use native.Mathlib.Omega.{arith}
-use Rattle.asking.proofs.AskLaws.{node-inside, before-is}
+use Rattle.asking.proofs.AskLaws.{beside-at, node-inside, before-is}
 use Rattle.asking.proofs.loaded.LoadedList.before_on.Goals as goal
 
 pub overflow_mul-slot : goal.overflow_mul-slot
@@ -18,4 +18,5 @@ beside-requires c =
 pub returns : goal.returns
 returns c =
     let list = c.args.self.now in
-    cc (c.beside.ensures, c.prev_at.ensures, before-is _ _ _ list.loaded _ _ c.requires.slot_live c.requires.of_gate)
+    beside-at list.extent _ _ _ _ _ c.beside.ensures (before-is _ _ _ list.loaded _ _ c.requires.slot_live c.requires.of_gate)
+    (omega (arith, c.prev_at.ensures))
