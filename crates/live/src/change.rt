@@ -46,5 +46,6 @@ pub fn rewrite(records: &mut [u8], work: &[u32], k: Extent, slot: Slot, g: Gate)
     ensures rewritten { held records.new work.now k ≡ rewritten slot.0 g (held records.old work.now k) }
     ensures record { records.new ≡ set records.old (16 * slot.0) (kind_of g) }
 {
-    records[16 * slot.0] = Record::from(g).kind;
+    let r = Record::from(g);
+    records[16 * slot.0] = r.kind;
 }

@@ -20,9 +20,11 @@ pub fn begin(records: &[u8], work: &mut [u32], k: Extent)
     ensures empty { held records.now work.new k ≡ [] }
     ensures within { Within 0 (words_for k) work.old work.new }
 {
-    nodes::close_ends(work, k.prev_at(), k);
+    let prev = k.prev_at();
+    let marks = k.ranks_at();
+    nodes::close_ends(work, prev, k);
     if 0 < k.gates {
-        ranks::start(work, k.ranks_at(), k.gates);
+        ranks::start(work, marks, k.gates);
     }
 }
 
@@ -45,7 +47,8 @@ pub fn push(
 {
     let r = records::record_at(list, place);
     records::put_record(records, Position(slot.0 as u32), r);
-    nodes::hang(work, k.prev_at(), k, r, slot.0);
+    let prev = k.prev_at();
+    nodes::hang(work, prev, k, r, slot.0);
     ranks::put_in(work, k.ranks_at(), k.gates, slot.0);
 }
 
@@ -58,7 +61,8 @@ pub fn pop(records: &[u8], work: &mut [u32], k: Extent, slot: Slot)
     ensures popped { held records.now work.new k ≡ left_out slot.0 (held records.now work.old k) }
     ensures within { Within 0 (words_for k) work.old work.new }
 {
-    nodes::take_off(work, k.prev_at(), k, slot.record(records), slot.0);
+    let prev = k.prev_at();
+    nodes::take_off(work, prev, k, slot.record(records), slot.0);
     ranks::take_out(work, k.ranks_at(), k.gates, slot.0);
 }
 

@@ -13,8 +13,8 @@ bounds-records-slot c = omega (arith, record-inside _ _ _ _ c.requires.live.load
 -- What is written is the kind of the gate's record; the laws tell what that does to the list.
 pub returns-clause-live : goal.returns-clause-live
 returns-clause-live c =
-    let one = c.requires.one_wire in rw c.from.ensures (rewrite-live _ _ _ _ _ c.requires.slot_live c.requires.live one.0 one.1 one.2)
+    let one = c.requires.one_wire in rw c.from-r.ensures (rewrite-live _ _ _ _ _ c.requires.slot_live c.requires.live one.0 one.1 one.2)
 
 pub returns-clause-rewritten : goal.returns-clause-rewritten
 returns-clause-rewritten c =
-    let one = c.requires.one_wire in rw c.from.ensures (rewrite-held _ _ _ _ _ c.requires.slot_live c.requires.live one.0 one.1 one.2)
+    let one = c.requires.one_wire in rw c.from-r.ensures (rewrite-held _ _ _ _ _ c.requires.slot_live c.requires.live one.0 one.1 one.2)

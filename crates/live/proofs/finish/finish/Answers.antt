@@ -1,4 +1,3 @@
-use mathlib.Core.Path.{refl}
 use native.Mathlib.Omega.{arith}
 use Rattle.live.proofs.FinishLaws.{moved-next, moved-count, moved-filled, cleared-zeroed}
 use Rattle.live.proofs.finish.finish.Goals as goal
@@ -13,7 +12,7 @@ returns-clause-left c = moved-count _ _ _ _ _ _ c.loop-slot-test.false c.loop-sl
 
 pub returns-clause-records : goal.returns-clause-records
 returns-clause-records c =
-    moved-filled _ _ _ _ _ _ c.loop-slot-test.false c.loop-slot.invariant _ _ c.requires.long refl (c.fill.ensures.after (λ y e. e))
+    moved-filled _ _ _ _ _ _ c.loop-slot-test.false c.loop-slot.invariant _ _ c.requires.long (omega arith) (c.fill.ensures.after (λ y e. e))
 
 pub returns-clause-work : goal.returns-clause-work
 returns-clause-work c = cleared-zeroed _ _ _ _ (omega (arith, c.requires.room)) c.clear.ensures
