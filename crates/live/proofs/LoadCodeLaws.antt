@@ -87,6 +87,21 @@ module _ (bytes was closed : List ℕ) (k : Extent) (few : k.gates ≤ 1048576) 
           go true e = absurd (omega (arith, live_below closed k i e))
           go false e = refl
 
+-- ------------------------------------------------------------ what a call left at a place, however the place was come by
+
+pub closed-at : (k : Extent) (at : ℕ) (was now : List ℕ) → Closed at k was now → at ≡ prev_at k → Closed (prev_at k) k was now
+closed-at k at was now left e = subst (λ (at : ℕ). Closed at k was now) e left
+
+pub blank-at : (k : Extent) (at : ℕ) (was now : List ℕ) → Blank at k.gates was now → at ≡ ranks_at k → Blank (ranks_at k) k.gates was now
+blank-at k at was now left e = subst (λ (at : ℕ). Blank at k.gates was now) e left
+
+pub hung-at : (k : Extent) (at slot : ℕ) (ws was now : List ℕ) → Hangs at k slot ws was now → at ≡ prev_at k → Hangs (prev_at k) k slot ws was now
+hung-at k at slot ws was now left e = subst (λ (at : ℕ). Hangs at k slot ws was now) e left
+
+pub off-at : (k : Extent) (at slot : ℕ) (ws was now : List ℕ) → now ≡ taken_off at (3 * k.gates) (3 * slot) ws was → at ≡ prev_at k →
+    now ≡ taken_off (prev_at k) (3 * k.gates) (3 * slot) ws was
+off-at k at slot ws was now left e = subst (λ (at : ℕ). now ≡ taken_off at (3 * k.gates) (3 * slot) ws was) e left
+
 -- ------------------------------------------------------------ what changes of links back ask and leave
 
 -- A sound record has room on either side of a loaded list.

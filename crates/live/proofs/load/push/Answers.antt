@@ -1,6 +1,6 @@
 use native.Mathlib.Omega.{arith}
 use Rattle.live.proofs.FinishLaws.{padding-small}
-use Rattle.live.proofs.LoadCodeLaws.{in-room, push-free, pushed}
+use Rattle.live.proofs.LoadCodeLaws.{hung-at, in-room, push-free, pushed}
 use Rattle.live.proofs.load.push.Goals as goal
 
 pub put_record-requires : goal.put_record-requires
@@ -11,18 +11,18 @@ put_record-requires c = (
 
 pub hang-requires : goal.hang-requires
 hang-requires c =
-    rw c.prev_at-prev.ensures
-    (in-room _ _ _ _ _ _ _ _ c.requires.loaded (omega arith) c.requires.slot_past_all.0 c.requires.sound.1 c.record_at-r.ensures)
+    in-room _ _ _ _ _ _ _ _ c.requires.loaded (omega (arith, c.prev_at-prev.ensures)) c.requires.slot_past_all.0 c.requires.sound.1
+    c.record_at-r.ensures
 
 pub put_in-requires : goal.put_in-requires
 put_in-requires c =
-    let hung = rw c.prev_at-prev.ensures at c.hang.ensures in
+    let hung = hung-at c.args.k _ _ _ _ _ c.hang.ensures (omega (arith, c.prev_at-prev.ensures)) in
     let whole = push-free _ _ _ _ _ _ _ _ c.requires.loaded c.requires.slot_past_all.0 c.requires.slot_past_all.1 c.requires.sound.1 c.record_at-r.ensures hung in
     rw c.ranks_at.ensures (record { ranks = whole.0; slot_lt_slots = whole.1 })
 
 pub returns : goal.returns
 returns c =
-    let hung = rw c.prev_at-prev.ensures at c.hang.ensures in
+    let hung = hung-at c.args.k _ _ _ _ _ c.hang.ensures (omega (arith, c.prev_at-prev.ensures)) in
     let marked = rw c.ranks_at.ensures at c.put_in.ensures in
     let whole = pushed _ _ _ _ _ _ _ _ c.requires.loaded c.requires.slot_past_all.0 c.requires.slot_past_all.1 c.requires.sound.1 c.record_at-r.ensures hung
     _ _ (λ i. omega (arith, c.type_inv.list i)) c.put_record.ensures marked in
