@@ -1,6 +1,6 @@
 -- What the links, the pairs and the ranks of a live list answer: the slots that its list of cells names.
 use Rattle.std.specs.Prelude.{Option as Answer, Some, None, Result, Ok}
-use mathlib.Core.Path.{◌≡◌, refl, sym, ap, ap₂, subst, ◌∙◌}
+use mathlib.Core.Path.{◌≡◌, refl, sym, ap, ap₂, ◌∙◌}
 use mathlib.Core.Bool.{Bool, true, cond, ◌&&◌}
 use mathlib.Core.List.{List, [], ◌∷◌}
 use mathlib.Core.Option.{Option, some, none}
